@@ -1,0 +1,54 @@
+-- Parts of two terms that face one another: what a comparison comes to.
+use Rattle.std.specs.Prelude.{◌≡◌, ℕ, suc, Some, None, Option, slice_get}
+use Rattle.lego_term.specs.declared.level.Level.{Level}
+use Rattle.lego_term.specs.Trees.{Core, Var, Const, Prop, Univ, Bodies}
+use Rattle.lego_term.specs.declared.binder.Binder.{Binder}
+use Rattle.lego_term.specs.declared.binder.Mark.{Mark}
+use Rattle.lego_term.specs.Parts.{Shape, APi, ASigma, shape_of, Branch, parts_of}
+use Rattle.lego_term.specs.Sequences.{HeadForm}
+
+-- how the two sides of a path are compared
+pub data Order : Type 0 where
+  Up Both : Order
+
+-- bodies of products and the parts of Sigma types are compared as the whole is, all other parts by conversion
+abbrev pub order_at : Order → Shape → ℕ → Order
+order_at Both s i = Both
+order_at Up ASigma i = Up
+order_at Up APi (suc i) = Up
+order_at Up _ i = Both
+
+-- the binders crossed, with those above the part
+abbrev pub crossed : ℕ → Branch → ℕ
+crossed n b = above n b.under
+  where
+    above : ℕ → Option Binder → ℕ
+    above n None = n
+    above n (Some x) = suc n
+
+-- one path of parts reaches the two head forms from both sides, under so many more binders; a head form is taken at each turn
+pub data Faces (bodies : Bodies Binder Mark Level) (a b : Core) : Order → ℕ → Core → Core → Type 0 where
+  root : {h k : Core} → HeadForm bodies a h → HeadForm bodies b k → Faces bodies a b Up 0 h k
+  turn : {o : Order} {n : ℕ} {c d h k : Core} {s : Shape} {p q : Branch} (i : ℕ)
+      → Faces bodies a b o n c d → shape_of c ≡ Some s → shape_of d ≡ Some s
+      → slice_get (parts_of c) i ≡ Some p → slice_get (parts_of d) i ≡ Some q
+      → HeadForm bodies p.term h → HeadForm bodies q.term k → Faces bodies a b (order_at o s i) (crossed n p) h k
+
+-- low <= high is asked of two universes that face one another
+pub data Asks : Order → Level → Level → Level → Level → Type 0 where
+  up : {o : Order} {l m : Level} → Asks o l m l m
+  down : {l m : Level} → Asks Both l m m l
+
+-- two head forms have one root, or both are universes
+pub data SameRoot : Core → Core → Type 0 where
+  variable : {i : ℕ} → SameRoot (Var i) (Var i)
+  constant : {k : ℕ} → SameRoot (Const k) (Const k)
+  prop : SameRoot Prop Prop
+  universes : {l m : Level} → SameRoot (Univ l) (Univ m)
+  parts : {h k : Core} {s : Shape} → shape_of h ≡ Some s → shape_of k ≡ Some s → SameRoot h k
+
+-- two terms are found to differ: at head forms that face one another, whose roots differ
+pub record DiffersAt (bodies : Bodies Binder Mark Level) (a b left right : Core) (deeper : ℕ) : Type 0 where
+  pub order : Order
+  pub faces : Faces bodies a b order deeper left right
+  pub roots : SameRoot left right → ⊥

@@ -1,0 +1,12 @@
+pub mod Levels
+pub mod Trees
+pub mod Steps
+pub mod Below
+pub mod Sequences
+pub mod Parts
+pub mod TreeCode
+pub mod Form
+pub mod TermFalls
+pub mod Made
+pub mod Node
+pub mod formers
