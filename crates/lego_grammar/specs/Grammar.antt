@@ -53,6 +53,12 @@ abbrev pub MayBind : Kind → Mark → Type 0
 MayBind Sigma Implicit = ⊥
 MayBind _ _ = Unit {0}
 
+abbrev pub places_of : List NameAt → List Place
+places_of xs = map (λ x. x.place) xs
+
+abbrev pub names_of : List NameAt → List ℕ
+names_of xs = map (λ x. x.name) xs
+
 -- names, with commas between
 pub data NameList (names : Names) (d : ℕ) : List Nested → List NameAt → Type 0 where
   one : {p : Place} {n : ℕ} {text : List ℕ}
@@ -112,7 +118,7 @@ pub data Reads (names : Names) : ℕ → Form → List Nested → Written → Ty
       → MayBind kind mark → NameList names (suc d) ns xs → Reads names (suc d) Term ts a → Reads names (suc d) Term us m
       → Reads names d Binder
       (symbol d p (opening kind) ∷ ns ++ symbol (suc d) q (sign mark) ∷ ts ++ symbol d r (closing kind) ∷ us)
-      (Bind kind mark (map (λ x. x.name) xs) a m)
+      (Bind kind mark (names_of xs) a m)
   local : {d n : ℕ} (p q r s : Place) {text : List ℕ} {ts us : List Nested} {m b : Written}
       → slice_get names n ≡ Some text → Reads names (suc d) Term ts m → Reads names (suc d) Term us b
       → Reads names d Binder
@@ -125,17 +131,17 @@ pub data ReadsBinding (names : Names) : List Nested → Bound → Type 0 where
       → NameList names 1 ns xs → Reads names 1 Term ts a
       → ReadsBinding names
       (symbol 0 p OpenSquare ∷ ns ++ symbol 1 q (sign mark) ∷ ts ++ symbol 0 r CloseSquare ∷ [])
-      (record { place = p; names = xs; says = Assumed mark a })
+      (record { place = p; places = places_of xs; names = names_of xs; says = Assumed mark a })
   define : (p q r s : Place) {n : ℕ} {text : List ℕ} {ts : List Nested} {m : Written}
       → slice_get names n ≡ Some text → Reads names 1 Term ts m
       → ReadsBinding names
       (symbol 0 p OpenSquare ∷ token 1 q (Name text) ∷ symbol 1 r Equals ∷ ts ++ symbol 0 s CloseSquare ∷ [])
-      (record { place = p; names = record { place = q; name = n } ∷ []; says = Defined m None })
+      (record { place = p; places = q ∷ []; names = n ∷ []; says = Defined m None })
   define_typed : (p q r s t : Place) {n : ℕ} {text : List ℕ} {ts us : List Nested} {m a : Written}
       → slice_get names n ≡ Some text → Reads names 1 Term ts m → Reads names 1 Term us a
       → ReadsBinding names
       (symbol 0 p OpenSquare ∷ token 1 q (Name text) ∷ symbol 1 r Equals ∷ ts ++ symbol 1 s Colon ∷ us ++ symbol 0 t CloseSquare ∷ [])
-      (record { place = p; names = record { place = q; name = n } ∷ []; says = Defined m (Some a) })
+      (record { place = p; places = q ∷ []; names = n ∷ []; says = Defined m (Some a) })
 
 pub data ReadsBindings (names : Names) : List Nested → List Bound → Type 0 where
   one : {ts : List Nested} {b : Bound} → ReadsBinding names ts b → ReadsBindings names ts (b ∷ [])
@@ -186,7 +192,7 @@ pub data ReadsAct (names : Names) : List Nested → Deed → Type 0 where
       → slice_get names n ≡ Some text → Reads names 0 Term ts s
       → ReadsAct names (word 0 p Word.Goal ∷ token 0 q (Name text) ∷ symbol 0 r Colon ∷ ts) (Deed.Goal (Some n) s)
   intros : {p : Place} {t : Nested} {ts : List Nested} {ns : List NameAt}
-      → ReadsNames names (t ∷ ts) ns → ReadsAct names (word 0 p Word.Intros ∷ t ∷ ts) (Deed.Intros ns)
+      → ReadsNames names (t ∷ ts) ns → ReadsAct names (word 0 p Word.Intros ∷ t ∷ ts) (Deed.Intros (places_of ns) (names_of ns))
   with_number : {p q : Place} {w : Word} {deed : ℕ → Deed} {n : ℕ}
       → NumberWord w deed → ReadsAct names (word 0 p w ∷ token 0 q (Number n) ∷ []) (deed n)
   with_name : {p q : Place} {w : Word} {deed : NameAt → Deed} {n : ℕ} {text : List ℕ}

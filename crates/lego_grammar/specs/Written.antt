@@ -28,16 +28,17 @@ pub data Says : Type 0 where
   Assumed : Mark → Written → Says
   Defined : Written → Option Written → Says
 
--- one binding of a context command, at its `[`
+-- one binding of a context command, at its `[`, with the places of its names
 pub record Bound : Type 0 where
   pub place : Place
-  pub names : List NameAt
+  pub places : List Place
+  pub names : List ℕ
   pub says : Says
 
 pub data Deed : Type 0 where
   Bindings : List Bound → Deed
   Goal : Option ℕ → Written → Deed
-  Intros : List NameAt → Deed
+  Intros : List Place → List ℕ → Deed
   Refine Claim Equiv Hnf Normal Show : Written → Deed
   Next Undo : ℕ → Deed
   Assumption KillRef Prf Ctxt Explicit Implicit : Deed

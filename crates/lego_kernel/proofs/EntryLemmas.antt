@@ -6,7 +6,7 @@ use Rattle.std.proofs.lemmas.Bool.Decides.{nat_tests}
 use Rattle.lego_term.specs.Levels.{Assignment, SatisfiesAll}
 use Rattle.lego_laws.specs.Entries.{Entry, Constant, entry_at, entries_at, entry_of, constant_of, core_bodies, kept}
 use Rattle.lego_kernel.specs.Entries.{laws_entry, laws_entries}
-use Rattle.lego_kernel.specs.Contexts.{AreAtoms}
+use Rattle.lego_kernel.specs.Contexts.{AreSimple}
 use Rattle.lego_kernel.specs.declared.entry.Entry.{Entry as Item}
 
 abbrev pub at_entry : Assignment → Item → Constant
@@ -64,7 +64,7 @@ pub entries_at-cons : (v : Assignment) (e : Item) (es : List Item)
 entries_at-cons v e es = reverse-cons (at_entry v e) (map (entry_at v) (laws_entries es))
 
 -- no entry has a number below the first
-pub absent : (v : Assignment) (n k : ℕ) (es : List Item) → AreAtoms n es → k < n → constant_of (entries_at v (laws_entries es)) k ≡ None
+pub absent : (v : Assignment) (n k : ℕ) (es : List Item) → AreSimple n es → k < n → constant_of (entries_at v (laws_entries es)) k ≡ None
 absent v n k [] a l = refl
 absent v n k (e ∷ es) a l =
     let rest = absent v (suc n) k es a.2 (omega arith) in
@@ -73,7 +73,7 @@ absent v n k (e ∷ es) a l =
     ∙ append_last (entries_at v (laws_entries es)) (at_entry v e ∷ []) k rest ∙ rw other refl
 
 -- nor one behind the last
-pub none_behind : (v : Assignment) (n k : ℕ) (es : List Item) → AreAtoms n es → n + length es ≤ k → constant_of (entries_at v (laws_entries es)) k ≡ None
+pub none_behind : (v : Assignment) (n k : ℕ) (es : List Item) → AreSimple n es → n + length es ≤ k → constant_of (entries_at v (laws_entries es)) k ≡ None
 none_behind v n k [] a l = refl
 none_behind v n k (e ∷ es) a l =
     let rest = none_behind v (suc n) k es a.2 (omega arith) in
@@ -82,7 +82,7 @@ none_behind v n k (e ∷ es) a l =
     ∙ append_last (entries_at v (laws_entries es)) (at_entry v e ∷ []) k rest ∙ rw other refl
 
 -- the entry at a place has that number
-pub found : (v : Assignment) (n k : ℕ) (es : List Item) (e : Item) → AreAtoms n es → slice_get es k ≡ Some e
+pub found : (v : Assignment) (n k : ℕ) (es : List Item) (e : Item) → AreSimple n es → slice_get es k ≡ Some e
     → constant_of (entries_at v (laws_entries es)) (n + k) ≡ Some (at_entry v e)
 found v n k [] e a at = cc
 found v n zero (x ∷ es) e a at =
@@ -99,7 +99,7 @@ found v n (suc k) (x ∷ es) e a at =
     ∙ append_first (entries_at v (laws_entries es)) (at_entry v x ∷ []) (n + suc k) (at_entry v e) rest
 
 -- the same in the order of the context
-pub found_in_order : (n k : ℕ) (es : List Item) (e : Item) → AreAtoms n es → slice_get es k ≡ Some e
+pub found_in_order : (n k : ℕ) (es : List Item) (e : Item) → AreSimple n es → slice_get es k ≡ Some e
     → entry_of (laws_entries es) (n + k) ≡ Some (laws_entry e)
 found_in_order n k [] e a at = cc
 found_in_order n zero (x ∷ es) e a at =

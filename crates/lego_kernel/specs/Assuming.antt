@@ -1,8 +1,9 @@
 -- When an assumption is admitted, and why it is refused.
-use Rattle.std.specs.Prelude.{◌≡◌, ℕ, ◌<◌, List, [], length, None, Some}
+use Rattle.std.specs.Prelude.{◌≡◌, ℕ, ◌<◌, List, [], ◌∷◌, length, None, Some}
 use Rattle.lego_term.specs.Levels.{Assignment, SatisfiesAll}
-use Rattle.lego_term.specs.Trees.{Core, at}
+use Rattle.lego_term.specs.Trees.{Core, Const, Pi, at}
 use Rattle.lego_term.specs.Sequences.{HeadForm}
+use Rattle.lego_term.specs.declared.binder.Binder.{Binder}
 use Rattle.lego_term.specs.declared.seen.Seen.{Seen}
 use Rattle.lego_laws.specs.Entries.{Entry, entries_at, core_bodies, kept}
 use Rattle.lego_laws.specs.Judgement.{IsType}
@@ -25,15 +26,32 @@ pub record IsNoType (es : List Entry) (t got : Core) : Type 0 where
   pub is_head : HeadForm (core_bodies es) got head
   pub no_type : Fulfils AType head → ⊥
 
--- the term with no binder around it
+-- the term with no binder around it, and with one more
 abbrev pub bare : Core → Seen
 bare t = record { under = []; term = t }
 
+abbrev pub below : Binder → Seen → Seen
+below x s = record { under = x ∷ s.under; term = s.term }
+
+-- The first constant of a type that is itself no type, and its rule type: domains are looked at before bodies.
+pub data NoTypeIn (es : List Entry) : Core → Seen → Seen → Type 0 where
+  constant : {k : ℕ} {got : Core} → IsNoType es (Const k) got → NoTypeIn es (Const k) (bare (Const k)) (bare got)
+  domain : {x : Binder} {a b : Core} {term got : Seen} → NoTypeIn es a term got → NoTypeIn es (Pi x a b) term got
+  body : {x : Binder} {a b : Core} {term got : Seen}
+      → IsTypeAlways es a → NoTypeIn es b term got → NoTypeIn es (Pi x a b) (below x term) (below x got)
+
 -- the refusal of a term that is no type; want of memory is free
 abbrev pub IsNoTypeBy : List Item → Core → TypeFault → Type 0
-IsNoTypeBy es t (NotAType term got) = (term ≡ bare t) × (got ≡ bare got.term) × IsNoType (laws_entries es) t got.term
+IsNoTypeBy es t (NotAType term got) = NoTypeIn (laws_entries es) t term got
 IsNoTypeBy es t Memory = Unit {0}
 IsNoTypeBy es t _ = ⊥
+
+-- the fault of a body, as it is seen from the binder around it; want of memory is free
+abbrev pub IsBelow : Binder → TypeFault → TypeFault → Type 0
+IsBelow x (NotAType term got) (NotAType term' got') = (term' ≡ below x term) × (got' ≡ below x got)
+IsBelow x (NotAType term got) Memory = Unit {0}
+IsBelow x (NotAType term got) _ = ⊥
+IsBelow x fault fault' = fault' ≡ fault
 
 -- the name is new, the type is a type, and there is room
 pub record IsAdmitted (es : List Item) (name : ℕ) (ty : Core) : Type 0 where

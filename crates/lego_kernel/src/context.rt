@@ -1,16 +1,17 @@
 //! Contexts, which contracts see as their lists of entries, the oldest first.
-ghost use Rattle.std.specs.Prelude.{◌≡◌, ◌≤◌, ◌++◌, [], ◌∷◌, length, take, slice_get, OnOk, OnErr, IfOk, IfErr};
+ghost use Rattle.std.specs.Prelude.{◌≡◌, ◌<◌, ◌≤◌, ◌++◌, [], ◌∷◌, length, take, slice_get, OnOk, OnErr, IfOk, IfErr};
 ghost use Rattle.std.specs.Option.{option_copied};
+ghost use Rattle.lego_term.specs.Trees.{Const};
 ghost use Rattle.lego_kernel.specs.Contexts.{IsContext};
 ghost use Rattle.lego_kernel.specs.Entries.{laws_entries, position_of, assumption};
-ghost use Rattle.lego_kernel.specs.Atoms.{IsAtomOver, is_prop as is_prop_tree};
-ghost use Rattle.lego_kernel.specs.Assuming.{IsTypeAlways, IsNoTypeBy, IsAdmitted, IsRefused};
+ghost use Rattle.lego_kernel.specs.Simple.{IsSimpleOver, IsSimpleType, is_prop as is_prop_tree};
+ghost use Rattle.lego_kernel.specs.Assuming.{IsNoTypeBy, IsAdmitted, IsRefused};
 ghost use Rattle.lego_kernel.specs.declared.fault.TypeFault.TheVariants.{Memory};
 
 use crate::entry::{At, Entry};
 use crate::fault::{Counted, TypeFault};
 use indexmap::IndexSet;
-use lego_term::{List, Mark, Node, Seen, Term};
+use lego_term::{Binder, List, Mark, Node, Seen, Term};
 use std::alloc::Global;
 use std::marker::Model;
 
@@ -80,7 +81,7 @@ impl Context {
 
     /// Adds an assumption, whose number is the least that no entry has. Luo's rule C.
     pub fn assume(&mut self, name: u32, mark: Mark, ty: &Term, _at: At) -> Result<(), TypeFault>
-        requires { IsAtomOver self.old ty.now }
+        requires { IsSimpleOver self.old ty.now }
         ensures ok { OnOk result (self.new ≡ self.old ++ assumption self.old name mark ty.now ∷ []) }
         ensures admitted { OnOk result (IsAdmitted self.old name ty.now) }
         ensures cause { IfErr result (λ fault. IsRefused self.old name ty.now fault) }
@@ -110,21 +111,39 @@ impl Context {
 
     /// Refuses what is no type.
     fn check_type(&self, ty: &Term) -> Result<(), TypeFault>
-        requires { IsAtomOver self.now ty.now }
-        ensures ok { OnOk result (IsTypeAlways (laws_entries self.now) ty.now) }
+        requires { IsSimpleOver self.now ty.now }
+        ensures ok { OnOk result (IsSimpleType self.now ty.now) }
         ensures cause { IfErr result (λ fault. IsNoTypeBy self.now ty.now fault) }
     {
-        let entries = self.entries.as_slice();
-        let Node::Const(number) = ty.view() else {
-            return Ok(());
-        };
-        let Some(entry) = entries.get(number as usize) else {
+        match ty.view() {
+            Node::Const(number) => self.check_constant(number, ty),
+            Node::Pi(binder, domain, body) => {
+                if let Err(fault) = self.check_type(domain) {
+                    return Err(fault);
+                }
+                match self.check_type(body) {
+                    Ok(()) => Ok(()),
+                    Err(fault) => Err(fault.below(self.alloc, binder)),
+                }
+            }
+            _ => Ok(()),
+        }
+    }
+
+    /// Refuses a constant that is no type.
+    fn check_constant(&self, number: u32, constant: &Term) -> Result<(), TypeFault>
+        requires within { number < length self.now }
+        requires constant { constant.now ≡ Const number }
+        ensures ok { OnOk result (IsSimpleType self.now constant.now) }
+        ensures cause { IfErr result (λ fault. IsNoTypeBy self.now constant.now fault) }
+    {
+        let Some(entry) = self.entries.get(number as usize) else {
             unreachable!()
         };
         if is_prop(&entry.ty) {
             return Ok(());
         }
-        let term = self.seen(ty)?;
+        let term = self.seen(constant)?;
         let got = self.seen(&entry.ty)?;
         Err(TypeFault::NotAType { term, got })
     }
@@ -142,7 +161,7 @@ impl Context {
 
     /// Adds an entry whose type is a type and whose name is new.
     fn add(&mut self, name: u32, mark: Mark, ty: &Term) -> Result<(), TypeFault>
-        requires atom { IsAtomOver self.old ty.now }
+        requires simple { IsSimpleOver self.old ty.now }
         requires admitted { IsAdmitted self.old name ty.now }
         ensures ok { OnOk result (self.new ≡ self.old ++ assumption self.old name mark ty.now ∷ []) }
         ensures err { OnErr result (self.new ≡ self.old) }
