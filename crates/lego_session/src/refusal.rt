@@ -1,0 +1,48 @@
+//! Refusals of commands.
+
+use lego_base::Place;
+use lego_kernel::Counted;
+use lego_term::{List, Seen};
+
+/// Why a command is refused.
+#[derive(Drop)]
+pub enum Cause {
+    /// A byte that begins no token.
+    BadByte { byte: u8 },
+    /// A comment that does not end.
+    OpenComment,
+    /// A name of more than 255 bytes.
+    LongName,
+    /// A numeral above 1,000,000.
+    BigLevel,
+    /// The first token after which no reading exists, or the first token of a command whose
+    /// form is not built.
+    Unexpected { token: List<u8> },
+    /// The first token of nesting 501.
+    TooDeep,
+    /// A command without its `;`.
+    Unended,
+    /// A command of so many bytes, which are more than 65,536.
+    LongCommand { bytes: u64 },
+    /// More than 1,048,576 names.
+    NamesFull,
+    /// A name that no entry has.
+    UnknownName { name: u32 },
+    /// A name that an entry has, or that stands earlier in the same list.
+    NameInUse { name: u32 },
+    /// `term` stands where a type is wanted, and its rule type `got` is no sort.
+    NotAType { term: Seen, got: Seen },
+    /// `held` are held, which is the limit.
+    Full { of: Counted, held: u32 },
+    /// Memory ran out.
+    Memory,
+}
+
+/// A refused command: where, why, and the text of the answer, which is empty where memory
+/// ran out. The state is as before.
+#[derive(Drop)]
+pub struct Refusal {
+    pub place: Place,
+    pub cause: Cause,
+    pub text: List<u8>,
+}
