@@ -3,7 +3,7 @@ use Rattle.std.proofs.Common.{◌≡◌, List, sym, subst, Result, Ok, Err, OnOk
 use Rattle.lego_term.specs.Trees.{Core, Pi}
 use Rattle.lego_term.specs.declared.binder.Binder.{Binder}
 use Rattle.lego_term.specs.declared.seen.Seen.{Seen}
-use Rattle.lego_kernel.specs.Assuming.{IsTypeAlways, NoTypeIn, domain, body, below, IsNoTypeBy, IsBelow}
+use Rattle.lego_kernel.specs.Assuming.{IsTypeAlways, NoTypeIn, domain, body, below, IsNoTypeBy, HasOtherConstant, IsBelow}
 use Rattle.lego_kernel.specs.Entries.{laws_entries}
 use Rattle.lego_kernel.specs.declared.entry.Entry.{Entry as Item}
 use Rattle.lego_kernel.specs.declared.fault.TypeFault.{TypeFault}
@@ -26,6 +26,21 @@ module _ (es : List Item) (x : Binder) (a b : Core) where
   of_body Memory outer t h e = subst (IsNoTypeBy es (Pi x a b)) (sym e) tt
   of_body (Full of held) outer t h e = absurd h
   of_body (NameInUse at) outer t h e = absurd h
+
+  pub other_of_domain : (fault : TypeFault) → HasOtherConstant es a fault → HasOtherConstant es (Pi x a b) fault
+  other_of_domain (NotAType term got) h = λ s. h s.0
+  other_of_domain Memory h = tt
+  other_of_domain (Full of held) h = tt
+  other_of_domain (NameInUse at) h = tt
+
+  pub other_of_body : (fault outer : TypeFault) → IsNoTypeBy es b fault → HasOtherConstant es b fault → IsBelow x fault outer → HasOtherConstant es (Pi x a b) outer
+  other_of_body (NotAType term got) (NotAType term' got') n h e = λ s. h s.1
+  other_of_body (NotAType term got) Memory n h e = tt
+  other_of_body (NotAType term got) (Full of held) n h e = tt
+  other_of_body (NotAType term got) (NameInUse at) n h e = tt
+  other_of_body Memory outer n h e = subst (HasOtherConstant es (Pi x a b)) (sym e) tt
+  other_of_body (Full of held) outer n h e = absurd n
+  other_of_body (NameInUse at) outer n h e = absurd n
 
 -- what holds anyway holds where the call is answered
 pub on_ok : {X E : Type 0} {P : Type 0} → (r : Result X E) → P → OnOk r P

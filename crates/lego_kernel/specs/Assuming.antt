@@ -10,6 +10,7 @@ use Rattle.lego_laws.specs.Judgement.{IsType}
 use Rattle.lego_laws.specs.RuleTypes.{HasRuleType}
 use Rattle.lego_laws.specs.Places.{AType, Fulfils}
 use Rattle.lego_kernel.specs.Entries.{laws_entries, position_of}
+use Rattle.lego_kernel.specs.Simple.{IsSimpleType}
 use Rattle.lego_kernel.specs.declared.entry.Entry.{Entry as Item}
 use Rattle.lego_kernel.specs.declared.fault.Counted.TheVariants.{Entries}
 use Rattle.lego_kernel.specs.declared.fault.TypeFault.{TypeFault}
@@ -53,16 +54,22 @@ IsBelow x (NotAType term got) Memory = Unit {0}
 IsBelow x (NotAType term got) _ = ⊥
 IsBelow x fault fault' = fault' ≡ fault
 
+-- where the fault is that of a type, not each constant of the term has the type `Prop`
+abbrev pub HasOtherConstant : List Item → Core → TypeFault → Type 0
+HasOtherConstant es t (NotAType term got) = IsSimpleType es t → ⊥
+HasOtherConstant es t _ = Unit {0}
+
 -- the name is new, the type is a type, and there is room
 pub record IsAdmitted (es : List Item) (name : ℕ) (ty : Core) : Type 0 where
   pub new : position_of es name ≡ None
+  pub simple : IsSimpleType es ty
   pub is_type : IsTypeAlways (laws_entries es) ty
   pub room : length es < 65536
 
 -- Why an assumption is refused, in this order: its name is in use, its type is none, there is no room.
 abbrev pub IsRefused : List Item → ℕ → Core → TypeFault → Type 0
 IsRefused es name ty (NameInUse at) = position_of es name ≡ Some at
-IsRefused es name ty (NotAType term got) = (position_of es name ≡ None) × IsNoTypeBy es ty (NotAType term got)
+IsRefused es name ty (NotAType term got) = (position_of es name ≡ None) × IsNoTypeBy es ty (NotAType term got) × (IsSimpleType es ty → ⊥)
 IsRefused es name ty (Full of held) =
-    (position_of es name ≡ None) × IsTypeAlways (laws_entries es) ty × (length es ≡ 65536) × (of ≡ Entries) × (held ≡ 65536)
+    (position_of es name ≡ None) × IsSimpleType es ty × (length es ≡ 65536) × (of ≡ Entries) × (held ≡ 65536)
 IsRefused es name ty Memory = Unit {0}

@@ -5,7 +5,7 @@ ghost use Rattle.lego_term.specs.Trees.{Const};
 ghost use Rattle.lego_kernel.specs.Contexts.{IsContext};
 ghost use Rattle.lego_kernel.specs.Entries.{laws_entries, position_of, assumption};
 ghost use Rattle.lego_kernel.specs.Simple.{IsSimpleOver, IsSimpleType, is_prop as is_prop_tree};
-ghost use Rattle.lego_kernel.specs.Assuming.{IsNoTypeBy, IsAdmitted, IsRefused};
+ghost use Rattle.lego_kernel.specs.Assuming.{IsNoTypeBy, HasOtherConstant, IsAdmitted, IsRefused};
 ghost use Rattle.lego_kernel.specs.declared.fault.TypeFault.TheVariants.{Memory};
 
 use crate::entry::{At, Entry};
@@ -114,6 +114,7 @@ impl Context {
         requires { IsSimpleOver self.now ty.now }
         ensures ok { OnOk result (IsSimpleType self.now ty.now) }
         ensures cause { IfErr result (λ fault. IsNoTypeBy self.now ty.now fault) }
+        ensures other { IfErr result (λ fault. HasOtherConstant self.now ty.now fault) }
     {
         match ty.view() {
             Node::Const(number) => self.check_constant(number, ty),
@@ -136,6 +137,7 @@ impl Context {
         requires constant { constant.now ≡ Const number }
         ensures ok { OnOk result (IsSimpleType self.now constant.now) }
         ensures cause { IfErr result (λ fault. IsNoTypeBy self.now constant.now fault) }
+        ensures other { IfErr result (λ fault. HasOtherConstant self.now constant.now fault) }
     {
         let Some(entry) = self.entries.get(number as usize) else {
             unreachable!()
