@@ -1,1 +1,4 @@
 pub mod ReadingLemmas
+pub mod TextLemmas
+pub mod BindingLemmas
+pub mod BindAllLemmas
