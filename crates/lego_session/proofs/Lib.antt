@@ -2,3 +2,4 @@ pub mod ReadingLemmas
 pub mod TextLemmas
 pub mod BindingLemmas
 pub mod BindAllLemmas
+pub mod StepLemmas
