@@ -6,3 +6,6 @@ pub mod CommandLemmas
 pub mod TokenLemmas
 pub mod ScanLemmas
 pub mod LexLemmas
+pub mod UniqueGaps
+pub mod UniqueTokens
+pub mod UniqueCuts
