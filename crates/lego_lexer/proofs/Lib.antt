@@ -9,3 +9,5 @@ pub mod LexLemmas
 pub mod UniqueGaps
 pub mod UniqueTokens
 pub mod UniqueCuts
+pub mod Scripts
+mod Sanity

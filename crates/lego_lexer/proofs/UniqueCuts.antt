@@ -1,18 +1,18 @@
 -- The cuts of bytes are unique.
-use Rattle.std.proofs.Common.{◌≡◌, ◌≢◌, ℕ, ◌+◌, ◌<◌, ◌≤◌, zero, suc, true, false, ◌&&◌, nat_eq, nat_lt, if◌then◌else◌, List, [], ◌∷◌, ◌++◌, length, refl, sym, ap, ◌∙◌, subst, arith, append_assoc}
+use Rattle.std.proofs.Common.{◌≡◌, ◌≢◌, ℕ, ◌+◌, ◌<◌, ◌≤◌, true, false, ◌&&◌, nat_eq, nat_lt, if◌then◌else◌, List, [], ◌∷◌, ◌++◌, length, refl, sym, ap, ◌∙◌, subst, arith, append_assoc}
 use Rattle.std.proofs.lemmas.List.{append_cancel_right, append-nil}
 use Rattle.std.proofs.lemmas.Bool.Decides.{nat_tests}
 use mathlib.Core.Bool.{true≢false}
 use Rattle.lego_base.specs.Place.{behind}
 use Rattle.lego_base.specs.declared.place.Place.{Place}
-use Rattle.lego_lexer.specs.Bytes.{begins_comment, behind_comments, Gap, IsComment, IsOpenComment, BeginsToken}
-use Rattle.lego_lexer.specs.Commands.{Unbroken, IsCut, Cuts, CommandText, Ending, Whole}
+use Rattle.lego_lexer.specs.Bytes.{begins_comment, Gap, IsComment, IsOpenComment, BeginsToken}
+use Rattle.lego_lexer.specs.Commands.{Unbroken, IsCut, Cuts, CommandText, Ending}
 use Rattle.lego_lexer.specs.Laws.{CutsAreUnique, ScriptsAreUnique}
 use Rattle.lego_lexer.specs.declared.token.Cut as Code
 use Rattle.lego_lexer.specs.declared.token.Cut.TheVariants as Cut
 use Rattle.lego_lexer.proofs.TokenLemmas.{and_false, test_equal}
 use Rattle.lego_lexer.proofs.CommandLemmas.{gap_then, gap_unbroken}
-use Rattle.lego_lexer.proofs.UniqueGaps.{Due, due_end, due_token, due_open, same_gap, same_comment, begins_before}
+use Rattle.lego_lexer.proofs.UniqueGaps.{due_end, due_token, due_open, same_gap, same_comment, begins_before}
 
 -- no unbroken byte or comment stands first, nor the `*` of a `(*`
 record Halt (bytes : List ℕ) : Type 0 where
@@ -153,7 +153,7 @@ same_part (Shape.command {body = v} bytes p u b) (Shape.open_comment {comment = 
 same_part (Shape.command {gap = g} {body = v} bytes p u b) (Shape.command {gap = h} {body = w} more q k c) e =
     let rests : bytes ≡ more = tails bytes more (same_fronts _ _ _ _ _ _ (command_fronts v bytes p u) (command_fronts w more q k) e).1 in
     let gaps = same_gap p q (v ++ 59 ∷ bytes) (w ++ 59 ∷ more) (due_token (v ++ 59 ∷ bytes) b) (due_token (w ++ 59 ∷ more) c)
-        (sym (append_assoc g v (59 ∷ bytes)) ∙ (e ∙ append_assoc h w (59 ∷ more))) in
+    (sym (append_assoc g v (59 ∷ bytes)) ∙ (e ∙ append_assoc h w (59 ∷ more))) in
     let bodies : v ≡ w = append_cancel_right v w (59 ∷ bytes) (gaps.1 ∙ ap (λ xs. w ++ 59 ∷ xs) (sym rests)) in
     commands_same g h v w bytes more gaps.0 bodies rests
   where

@@ -1,10 +1,9 @@
 -- A gap ends where a token, an open comment or the end of the bytes stands.
-use Rattle.std.proofs.Common.{◌≡◌, ◌≢◌, ℕ, zero, suc, true, false, Bool, ◌&&◌, nat_eq, List, [], ◌∷◌, ◌++◌, length, get_or, drop, Option, Some, None, refl, sym, ap, ◌∙◌, subst, arith, append_assoc}
+use Rattle.std.proofs.Common.{◌≡◌, ◌≢◌, ℕ, zero, suc, true, false, ◌&&◌, nat_eq, List, [], ◌∷◌, ◌++◌, get_or, drop, Some, None, refl, sym, ap, ◌∙◌, arith, append_assoc}
 use Rattle.std.proofs.lemmas.List.{append_cancel_right}
 use Rattle.std.proofs.lemmas.Bool.Decides.{nat_tests}
 use mathlib.Core.Bool.{true≢false}
 use Rattle.lego_lexer.specs.Bytes.{is_blank, begins_comment, behind_comments, delimiter, Gap, IsComment, IsOpenComment, BeginsToken}
-use Rattle.lego_lexer.specs.declared.comment.Delimiter.{Delimiter}
 use Rattle.lego_lexer.specs.declared.comment.Delimiter.TheVariants.{Opens, Closes, Neither}
 
 -- what ends the comments, ends them before more bytes too

@@ -1,14 +1,14 @@
 -- The tokens of bytes, and their first fault, are unique.
-use Rattle.std.proofs.Common.{◌≡◌, ◌≢◌, ℕ, ◌+◌, ◌<◌, ◌≤◌, zero, suc, true, false, List, [], ◌∷◌, ◌++◌, length, get_or, Option, Some, None, ◌⊎◌, inl, inr, refl, sym, ap, ◌∙◌, subst, arith, append_assoc}
+use Rattle.std.proofs.Common.{◌≡◌, ℕ, zero, suc, List, [], ◌∷◌, ◌++◌, Option, Some, None, ◌⊎◌, inl, inr, refl, sym, ap, ◌∙◌, subst, arith, append_assoc}
 use Rattle.std.proofs.lemmas.List.{append_cancel_left, append-nil}
 use mathlib.Core.Bool.{true≢false}
 use Rattle.lego_base.specs.Place.{behind}
 use Rattle.lego_base.specs.declared.place.Place.{Place}
-use Rattle.lego_lexer.specs.Bytes.{is_blank, begins_comment, Gap, IsOpenComment, BeginsToken}
-use Rattle.lego_lexer.specs.Tokens.{Lexeme, Name, Number, token_of, IsLongest, NoToken, Point, Placed, Reads, Tokens, WithinLimits, AllWithinLimits, FaultAt, Refused, past, placed_at, start}
+use Rattle.lego_lexer.specs.Bytes.{begins_comment, Gap, IsOpenComment, BeginsToken}
+use Rattle.lego_lexer.specs.Tokens.{Lexeme, Name, Number, token_of, IsLongest, NoToken, Point, Placed, Reads, WithinLimits, AllWithinLimits, FaultAt, past, placed_at}
 use Rattle.lego_lexer.specs.Laws.{TokensAreUnique, FaultsAreUnique, FaultsExcludeTokens}
 use Rattle.lego_lexer.specs.declared.token.LexFault.{LexFault}
-use Rattle.lego_lexer.specs.declared.token.LexFault.TheVariants.{BadByte, OpenComment, LongName, BigLevel}
+use Rattle.lego_lexer.specs.declared.token.LexFault.TheVariants.{OpenComment, LongName, BigLevel}
 use Rattle.lego_lexer.proofs.UniqueGaps.{Due, due_end, due_token, due_open, same_gap}
 
 -- of two fronts of the same bytes, one is the front of the other

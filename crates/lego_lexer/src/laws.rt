@@ -7,12 +7,10 @@ pub fn tokens_are_unique()
     ensures tokens { TokensAreUnique }
     ensures faults { FaultsAreUnique }
     ensures either { FaultsExcludeTokens }
-{
-}
+{}
 
 /// What stands first in bytes is one cut, and a script has at most one list of commands.
 pub fn cuts_are_unique()
     ensures cuts { CutsAreUnique }
     ensures scripts { ScriptsAreUnique }
-{
-}
+{}
