@@ -10,4 +10,5 @@ pub mod UniqueGaps
 pub mod UniqueTokens
 pub mod UniqueCuts
 pub mod Scripts
+pub mod Ranges
 mod Sanity
