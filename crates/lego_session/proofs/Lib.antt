@@ -1,1 +1,5 @@
 pub mod ReadingLemmas
+pub mod CutLemmas
+pub mod DenotesLemmas
+pub mod OutcomeLemmas
+pub mod RunLemmas

@@ -5,3 +5,8 @@ pub mod Refusals
 pub mod Steps
 pub mod Commands
 pub mod Denotes
+pub mod Runs
+pub mod Headline
+pub mod Statuses
+pub mod Outcomes
+pub mod Progress

@@ -7,6 +7,11 @@ mod refusal;
 mod refusal_text;
 mod session;
 mod text;
+mod running;
+mod script;
+mod status;
 
 pub use refusal::{Cause, Refusal};
+pub use running::run;
 pub use session::Session;
+pub use status::Status;
