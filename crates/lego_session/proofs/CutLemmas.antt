@@ -1,5 +1,5 @@
 -- Commands among the bytes of a script, from the lexer's cuts.
-use Rattle.std.proofs.Common.{◌≡◌, ℕ, ◌+◌, ◌-◌, ◌<◌, ◌≤◌, Bool, true, false, nat_eq, List, [], ◌∷◌, ◌++◌, length, take, drop, refl, sym, ap, ◌∙◌, subst, inl, inr, arith, append_assoc, length-append, length-drop}
+use Rattle.std.proofs.Common.{◌≡◌, ℕ, ◌+◌, ◌-◌, ◌<◌, ◌≤◌, Bool, true, false, nat_eq, List, [], ◌∷◌, ◌++◌, length, take, drop, refl, sym, ap, ◌∙◌, subst, inl, inr, arith, append_assoc, length-append, length-drop, length-take}
 use Rattle.std.specs.Prelude.{slice_range, if◌then◌else◌, ◌⊎◌}
 use Rattle.std.proofs.Math.Seq.{take-append_seam, drop-append_seam, take-append-add}
 use Rattle.std.proofs.lemmas.List.{drop-drop}
@@ -26,6 +26,13 @@ near-behind p (byte ∷ bytes) n h =
     let rest : IsNear (behind (past p byte) bytes) (n + 1 + length bytes) = near-behind (past p byte) bytes (n + 1) (near-past p byte n h) in
     let more : n + 1 + length bytes ≡ n + length (byte ∷ bytes) = omega arith in
     subst (IsNear (behind (past p byte) bytes)) more rest
+
+-- the place behind a range of bytes
+pub near_end : (bytes : List ℕ) (here : Place) (start end : ℕ) → IsNear here start → start < end → end ≤ length bytes
+    → IsNear (behind here (slice_range bytes start end)) end
+near_end bytes here start end h some within =
+    let count : start + length (slice_range bytes start end) ≡ end = omega (arith, length-take (end - start) (drop start bytes), length-drop start bytes) in
+    subst (IsNear (behind here (slice_range bytes start end))) count (near-behind here (slice_range bytes start end) start h)
 
 -- a command and its `;` behind a gap, with the indexes of its first byte and of the end
 pub record IsTerminated (from : ℕ) (bytes : List ℕ) (start end : ℕ) : Type 0 where
