@@ -139,9 +139,9 @@ module _ (bytes : List ℕ) (at start end : ℕ) (inside : at ≤ length bytes) 
         → Cuts place ((t.gap ++ (t.body ++ 59 ∷ [])) ++ rest) (record { place = behind place t.gap; bytes = t.body ++ 59 ∷ [] } ∷ others) ending
     more_cuts rest others ending k =
         let joined : t.gap ++ t.body ++ 59 ∷ rest ≡ (t.gap ++ (t.body ++ 59 ∷ [])) ++ rest =
-            append_assoc t.gap t.body (59 ∷ rest) ∙ sym (append_assoc t.gap (t.body ++ 59 ∷ []) rest ∙ ap (λ (ys : List ℕ). t.gap ++ ys) (append_assoc t.body (59 ∷ []) rest)) in
+        append_assoc t.gap t.body (59 ∷ rest) ∙ sym (append_assoc t.gap (t.body ++ 59 ∷ []) rest ∙ ap (λ (ys : List ℕ). t.gap ++ ys) (append_assoc t.body (59 ∷ []) rest)) in
         let place_is : behind (behind place t.gap) (t.body ++ 59 ∷ []) ≡ behind place (t.gap ++ t.body ++ 59 ∷ []) =
-            sym (behind-append place t.gap (t.body ++ 59 ∷ [])) ∙ ap (behind place) (sym (append_assoc t.gap t.body (59 ∷ []))) in
+        sym (behind-append place t.gap (t.body ++ 59 ∷ [])) ∙ ap (behind place) (sym (append_assoc t.gap t.body (59 ∷ []))) in
         let next : Cuts (behind place (t.gap ++ t.body ++ 59 ∷ [])) rest others ending = subst (λ (p : Place). Cuts p rest others ending) place_is k in
         subst (λ (ys : List ℕ). Cuts place ys (record { place = behind place t.gap; bytes = t.body ++ 59 ∷ [] } ∷ others) ending) joined
         (Cuts.command t.blank t.unbroken (begins_so t.body t.rest rest t.begins) next)

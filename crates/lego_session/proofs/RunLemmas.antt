@@ -108,7 +108,7 @@ module _ (bytes : List ℕ) (at : ℕ) (place : Place) (held : Names) (old : Lis
         let before = answers_text r.answers in
         let all = text-push r.answers a in
         let front : take (length before + w.0) (answers_text (r.answers ++ a ∷ [])) ≡ before ++ take w.0 a.text =
-            ap (take (length before + w.0)) all ∙ take-append-add before a.text w.0 in
+        ap (take (length before + w.0)) all ∙ take-append-add before a.text w.0 in
         record {
           came = (r.came ++ slice_range bytes at end) ++ [];
           more = drop end bytes;

@@ -10,6 +10,8 @@ mod text;
 mod running;
 mod script;
 mod status;
+#[cfg(test)]
+mod tests;
 
 pub use refusal::{Cause, Refusal};
 pub use running::run;
