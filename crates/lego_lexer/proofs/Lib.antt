@@ -1,1 +1,5 @@
 pub mod SpellingLemmas
+pub mod SliceLemmas
+pub mod CommentLemmas
+pub mod GapLemmas
+pub mod CommandLemmas

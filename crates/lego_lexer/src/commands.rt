@@ -1,5 +1,6 @@
 //! Commands cut from the bytes of a script.
-ghost use Rattle.std.specs.Prelude.{◌≡◌, ◌≤◌, drop, length};
+ghost use Rattle.std.specs.Prelude.{◌≡◌, ◌<◌, ◌≤◌, ◌+◌, ◌++◌, ℕ, List, drop, length};
+ghost use Rattle.lego_lexer.specs.Bytes.{Gap, BeginsToken};
 ghost use Rattle.lego_lexer.specs.Commands.{IsCut};
 ghost use Rattle.lego_lexer.specs.Scanned.{IsSemicolon};
 
@@ -22,8 +23,12 @@ pub fn cut(bytes: &[u8], from: usize) -> Cut
     }
 }
 
-/// The command whose first token begins at `start`.
-fn command_at(bytes: &[u8], start: usize) -> Cut {
+/// The command whose first token begins at `start`, behind a gap.
+fn command_at(bytes: &[u8], start: usize) -> Cut
+    requires within { start < length bytes.now }
+    requires begins { BeginsToken (drop start bytes.now) }
+    ensures { (from : ℕ) (gap : List ℕ) → Gap gap → from + length gap ≡ start → IsCut from (gap ++ drop start bytes.now) result }
+{
     match semicolon(bytes, start) {
         Stop::At(at) => {
             let end = at + 1;

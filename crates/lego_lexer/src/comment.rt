@@ -1,6 +1,6 @@
 //! Blanks and comments, which separate tokens and have no other meaning.
 ghost use Rattle.std.specs.Prelude.{◌≡◌, ◌<◌, ◌≤◌, option_map, drop, length, MatchOption};
-ghost use Rattle.lego_lexer.specs.Bytes.{is_blank, begins_comment, behind_comments};
+ghost use Rattle.lego_lexer.specs.Bytes.{is_blank, begins_comment, behind_comments, delimiter};
 ghost use Rattle.lego_lexer.specs.Scanned.{IsGapEnd};
 
 /// Where a walk over bytes ends.
@@ -14,7 +14,27 @@ pub enum Stop {
     End,
 }
 
-pub fn is_blank(byte: u8) -> bool
+/// What two bytes are to comments.
+#[derive(Clone, Copy)]
+enum Delimiter {
+    /// `(*`.
+    Opens,
+    /// `*)`.
+    Closes,
+    Neither,
+}
+
+fn delimiter_of(first: u8, second: u8) -> Delimiter
+    ensures { result ≡ delimiter first second }
+{
+    match (first, second) {
+        (b'(', b'*') => Delimiter::Opens,
+        (b'*', b')') => Delimiter::Closes,
+        _ => Delimiter::Neither,
+    }
+}
+
+fn is_blank(byte: u8) -> bool
     ensures { result ≡ is_blank byte }
 {
     byte == b' ' || byte == b'\t' || byte == b'\r' || byte == b'\n'
@@ -22,9 +42,13 @@ pub fn is_blank(byte: u8) -> bool
 
 /// Whether `(*` stands at the index.
 pub fn begins_comment(bytes: &[u8], at: usize) -> bool
+    requires { at < length bytes.now }
     ensures { result ≡ begins_comment (drop at bytes.now) }
 {
-    bytes.len() > at + 1 && bytes[at] == b'(' && bytes[at + 1] == b'*'
+    if bytes.len() - at < 2 {
+        return false;
+    }
+    bytes[at] == b'(' && bytes[at + 1] == b'*'
 }
 
 /// The index behind a comment, whose inside begins at `from`; comments nest.
@@ -33,20 +57,22 @@ pub fn comment_end(bytes: &[u8], from: usize) -> Option<usize>
     ensures within { MatchOption result (Unit {0}) (λ end. (from < end) × (end ≤ length bytes.now)) }
     ensures ends { behind_comments 1 (drop from bytes.now) ≡ option_map (λ end. drop end bytes.now) result }
 {
-    let mut depth = 1;
+    let mut depth: usize = 1;
     let mut at = from;
     while at + 1 < bytes.len() {
-        if bytes[at] == b'(' && bytes[at + 1] == b'*' {
-            depth += 1;
-            at += 2;
-        } else if bytes[at] == b'*' && bytes[at + 1] == b')' {
-            depth -= 1;
-            at += 2;
-            if depth == 0 {
-                return Some(at);
+        match delimiter_of(bytes[at], bytes[at + 1]) {
+            Delimiter::Opens => {
+                depth += 1;
+                at += 2;
             }
-        } else {
-            at += 1;
+            Delimiter::Closes => {
+                depth -= 1;
+                at += 2;
+                if depth == 0 {
+                    return Some(at);
+                }
+            }
+            Delimiter::Neither => at += 1,
         }
     }
     None

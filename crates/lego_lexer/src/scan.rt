@@ -3,7 +3,7 @@ ghost use Rattle.std.specs.Prelude.{◌≡◌, ◌<◌, ◌≤◌, ◌+◌, drop
 ghost use Rattle.std.specs.List.{list_all};
 ghost use Rattle.lego_lexer.specs.Bytes.{begins_name, goes_on_in_name, is_digit, BeginsToken};
 ghost use Rattle.lego_lexer.specs.Tokens.{FaultAt, number_value};
-ghost use Rattle.lego_lexer.specs.Scanned.{IsRunEnd, IsScanned};
+ghost use Rattle.lego_lexer.specs.Scanned.{IsScanned};
 
 use crate::spelling::{symbol, word};
 use crate::token::{LexFault, Symbol, TokenKind};
