@@ -1,10 +1,10 @@
 -- Steps over comments, and whole comments of bytes.
-use Rattle.std.proofs.Common.{◌≡◌, ℕ, ◌+◌, ◌-◌, ◌<◌, ◌≤◌, zero, suc, true, false, Bool, List, [], ◌∷◌, ◌++◌, length, get_or, take, drop, Some, None, Option, refl, sym, ap, ◌∙◌, subst, arith, add-one, drop-cons}
+use Rattle.std.proofs.Common.{◌≡◌, ℕ, ◌+◌, ◌-◌, ◌<◌, ◌≤◌, zero, suc, true, false, ◌&&◌, nat_eq, Bool, List, [], ◌∷◌, ◌++◌, length, get_or, take, drop, Some, None, Option, refl, sym, ap, ◌∙◌, subst, arith, add-one, drop-cons}
 use Rattle.std.specs.Prelude.{slice_range}
 use Rattle.std.proofs.lemmas.List.{append_cancel_right, drop-drop}
 use Rattle.std.proofs.lemmas.List.Folds.{drop_split}
 use Rattle.lego_lexer.proofs.SliceLemmas.{slice_cons}
-use Rattle.lego_lexer.specs.Bytes.{behind_comments, begins_comment, delimiter, IsComment, IsOpenComment}
+use Rattle.lego_lexer.specs.Bytes.{behind_comments, begins_with, begins_comment, delimiter, IsComment, IsOpenComment}
 use Rattle.lego_lexer.specs.declared.comment.Delimiter.{Delimiter}
 use Rattle.lego_lexer.specs.declared.comment.Delimiter.TheVariants.{Opens, Closes, Neither}
 
@@ -54,10 +54,14 @@ module _ (bytes : List ℕ) (depth at : ℕ) (within : at + 1 < length bytes) (s
       let tail : drop (at + 1) bytes ≡ get_or bytes (at + 1) 0 ∷ drop (at + 2) bytes = rw two (drop-cons bytes (at + 1) 0 within) in
       ap (behind_comments depth) tail ∙ (passed depth _ _ (drop (at + 2) bytes) some e ∙ ap (behind_comments depth) (sym (two_bytes bytes at within)))
 
-pub short_begins_none : (bytes : List ℕ) → length bytes ≤ 1 → begins_comment bytes ≡ false
-short_begins_none [] h = refl
-short_begins_none (b ∷ []) h = refl
-short_begins_none (b ∷ c ∷ bytes) h = absurd (omega arith)
+pub short_begins_none : (first second : ℕ) (bytes : List ℕ) → length bytes ≤ 1 → begins_with first second bytes ≡ false
+short_begins_none first second [] h = refl
+short_begins_none first second (b ∷ []) h = refl
+short_begins_none first second (b ∷ c ∷ bytes) h = absurd (omega arith)
+
+pub begins_at : (first second at : ℕ) (bytes : List ℕ) → at + 1 < length bytes
+    → begins_with first second (drop at bytes) ≡ nat_eq (get_or bytes at 0) first && nat_eq (get_or bytes (at + 1) 0) second
+begins_at first second at bytes h = ap (begins_with first second) (two_bytes bytes at h)
 
 -- the front of bytes that ends the open comments, and the bytes behind it
 pub record Split (depth : ℕ) (bytes rest : List ℕ) : Type 0 where
@@ -89,17 +93,17 @@ split (suc depth) (b ∷ c ∷ bytes) rest h =
       | Neither ↦ λ e. ended_by depth b c bytes rest e (split (suc depth) (c ∷ bytes) rest (passed (suc depth) b c bytes (omega arith) e ∙ h))
     ] refl
 
-pub begins_two : (at : ℕ) (bytes : List ℕ) → at < length bytes → begins_comment (drop at bytes) ≡ true → at + 1 < length bytes
-begins_two zero [] h b = absurd (omega arith)
-begins_two zero (x ∷ []) h b = absurd (cc)
-begins_two zero (x ∷ y ∷ bytes) h b = omega arith
-begins_two (suc at) [] h b = absurd (omega arith)
-begins_two (suc at) (x ∷ bytes) h b = let k : at + 1 < length bytes = begins_two at bytes (omega arith) b in omega arith
+pub begins_two : (first second at : ℕ) (bytes : List ℕ) → at < length bytes → begins_with first second (drop at bytes) ≡ true → at + 1 < length bytes
+begins_two first second zero [] h b = absurd (omega arith)
+begins_two first second zero (x ∷ []) h b = absurd (cc)
+begins_two first second zero (x ∷ y ∷ bytes) h b = omega arith
+begins_two first second (suc at) [] h b = absurd (omega arith)
+begins_two first second (suc at) (x ∷ bytes) h b = let k : at + 1 < length bytes = begins_two first second at bytes (omega arith) b in omega arith
 
 -- a comment at an index, up to its end
 module _ (bytes : List ℕ) (at : ℕ) (within : at < length bytes) (begins : begins_comment (drop at bytes) ≡ true) where
   two_there : at + 1 < length bytes
-  two_there = begins_two at bytes within begins
+  two_there = begins_two 40 42 at bytes within begins
 
   inside_is : drop 2 (drop at bytes) ≡ drop (at + 2) bytes
   inside_is = drop-drop 2 at bytes

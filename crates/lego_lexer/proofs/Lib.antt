@@ -3,3 +3,5 @@ pub mod SliceLemmas
 pub mod CommentLemmas
 pub mod GapLemmas
 pub mod CommandLemmas
+pub mod TokenLemmas
+pub mod ScanLemmas

@@ -39,11 +39,15 @@ behind_comments (suc depth) (b ∷ c ∷ bytes) =
       | Neither ↦ behind_comments (suc depth) (c ∷ bytes)
     ]
 
+-- the bytes begin with these two
+abbrev pub begins_with : ℕ → ℕ → List ℕ → Bool
+begins_with first second [] = false
+begins_with first second (b ∷ []) = false
+begins_with first second (b ∷ c ∷ bytes) = nat_eq b first && nat_eq c second
+
 -- the bytes begin with `(*`
 abbrev pub begins_comment : List ℕ → Bool
-begins_comment [] = false
-begins_comment (b ∷ []) = false
-begins_comment (b ∷ c ∷ bytes) = nat_eq b 40 && nat_eq c 42
+begins_comment bytes = begins_with 40 42 bytes
 
 -- the bytes are one whole comment
 pub record IsComment (text : List ℕ) : Type 0 where

@@ -1,5 +1,6 @@
 -- What the parts of the scanner answer.
-use Rattle.std.specs.Prelude.{◌≡◌, ℕ, ◌≤◌, ◌<◌, List, ◌∷◌, length, drop, slice_range}
+use Rattle.std.specs.Prelude.{◌≡◌, ℕ, ◌≤◌, ◌<◌, List, ◌∷◌, Bool, true, false, length, drop, get_or, slice_range}
+use Rattle.std.specs.List.{list_all}
 use Rattle.lego_lexer.specs.Bytes.{Gap, BeginsToken, IsOpenComment}
 use Rattle.lego_lexer.specs.Commands.{Unbroken}
 use Rattle.lego_lexer.specs.Tokens.{IsLongest, WithinLimits, lexeme_of}
@@ -21,6 +22,13 @@ BeginsSemicolon bytes = (rest : List ℕ) × (bytes ≡ 59 ∷ rest)
 
 abbrev pub IsSemicolon : List ℕ → ℕ → Stop → Type 0
 IsSemicolon = Stops Unbroken BeginsSemicolon
+
+-- a run of bytes of a kind, from an index on, ends
+pub record IsRunEnd (p : ℕ → Bool) (bytes : List ℕ) (at to : ℕ) : Type 0 where
+  pub after : at ≤ to
+  pub within : to ≤ length bytes
+  pub all : list_all p (slice_range bytes at to) ≡ true
+  pub stops : to < length bytes → p (get_or bytes to 0) ≡ false
 
 -- the longest token at an index, within the limits
 pub record IsScanned (bytes : List ℕ) (at : ℕ) (scanned : Scanned) : Type 0 where

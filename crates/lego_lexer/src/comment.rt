@@ -1,6 +1,6 @@
 //! Blanks and comments, which separate tokens and have no other meaning.
 ghost use Rattle.std.specs.Prelude.{◌≡◌, ◌<◌, ◌≤◌, option_map, drop, length, MatchOption};
-ghost use Rattle.lego_lexer.specs.Bytes.{is_blank, begins_comment, behind_comments, delimiter};
+ghost use Rattle.lego_lexer.specs.Bytes.{is_blank, begins_with, begins_comment, behind_comments, delimiter};
 ghost use Rattle.lego_lexer.specs.Scanned.{IsGapEnd};
 
 /// Where a walk over bytes ends.
@@ -40,15 +40,23 @@ fn is_blank(byte: u8) -> bool
     byte == b' ' || byte == b'\t' || byte == b'\r' || byte == b'\n'
 }
 
+/// Whether these two bytes stand at the index.
+pub fn begins_with(bytes: &[u8], at: usize, first: u8, second: u8) -> bool
+    requires { at < length bytes.now }
+    ensures { result ≡ begins_with first second (drop at bytes.now) }
+{
+    if bytes.len() - at < 2 {
+        return false;
+    }
+    bytes[at] == first && bytes[at + 1] == second
+}
+
 /// Whether `(*` stands at the index.
 pub fn begins_comment(bytes: &[u8], at: usize) -> bool
     requires { at < length bytes.now }
     ensures { result ≡ begins_comment (drop at bytes.now) }
 {
-    if bytes.len() - at < 2 {
-        return false;
-    }
-    bytes[at] == b'(' && bytes[at + 1] == b'*'
+    begins_with(bytes, at, b'(', b'*')
 }
 
 /// The index behind a comment, whose inside begins at `from`; comments nest.

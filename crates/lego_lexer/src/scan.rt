@@ -1,10 +1,10 @@
 //! The longest token at an index.
-ghost use Rattle.std.specs.Prelude.{◌≡◌, ◌<◌, ◌≤◌, ◌+◌, drop, length, min, slice_range, MatchResult};
-ghost use Rattle.std.specs.List.{list_all};
+ghost use Rattle.std.specs.Prelude.{◌≡◌, ◌<◌, ◌≤◌, ◌+◌, drop, length, min, slice_index, IsTrue, IsFalse, MatchResult};
 ghost use Rattle.lego_lexer.specs.Bytes.{begins_name, goes_on_in_name, is_digit, BeginsToken};
 ghost use Rattle.lego_lexer.specs.Tokens.{FaultAt, number_value};
-ghost use Rattle.lego_lexer.specs.Scanned.{IsScanned};
+ghost use Rattle.lego_lexer.specs.Scanned.{IsRunEnd, IsScanned};
 
+use crate::comment::begins_with;
 use crate::spelling::{symbol, word};
 use crate::token::{LexFault, Symbol, TokenKind};
 use lego_base::Place;
@@ -55,7 +55,13 @@ pub fn scan(bytes: &[u8], at: usize, place: Place) -> Result<Scanned, LexFault>
     scan_symbol(bytes, at, place)
 }
 
-fn scan_name(bytes: &[u8], at: usize, place: Place) -> Result<Scanned, LexFault> {
+/// A name or a reserved word.
+fn scan_name(bytes: &[u8], at: usize, place: Place) -> Result<Scanned, LexFault>
+    requires within { at < length bytes.now }
+    requires first { IsTrue (begins_name (slice_index bytes.now at)) }
+    requires begins { BeginsToken (drop at bytes.now) }
+    ensures { MatchResult result (IsScanned bytes.now at) (FaultAt place (drop at bytes.now)) }
+{
     let to = name_end(bytes, at);
     let text = &bytes[at..to];
     if let Some(word) = word(text) {
@@ -69,7 +75,10 @@ fn scan_name(bytes: &[u8], at: usize, place: Place) -> Result<Scanned, LexFault>
     Ok(Scanned { kind, to })
 }
 
-fn name_end(bytes: &[u8], at: usize) -> usize {
+fn name_end(bytes: &[u8], at: usize) -> usize
+    requires { at ≤ length bytes.now }
+    ensures { IsRunEnd goes_on_in_name bytes.now at result }
+{
     let mut to = at;
     while to < bytes.len() && goes_on_in_name(bytes[to]) {
         to += 1;
@@ -77,13 +86,15 @@ fn name_end(bytes: &[u8], at: usize) -> usize {
     to
 }
 
-fn scan_number(bytes: &[u8], at: usize, place: Place) -> Result<Scanned, LexFault> {
-    let mut value = 0;
-    let mut to = at;
-    while to < bytes.len() && is_digit(bytes[to]) {
-        value = (10 * value + u32::from(bytes[to] - b'0')).min(MAX_NUMBER + 1);
-        to += 1;
-    }
+/// A numeral.
+fn scan_number(bytes: &[u8], at: usize, place: Place) -> Result<Scanned, LexFault>
+    requires within { at < length bytes.now }
+    requires first { IsTrue (is_digit (slice_index bytes.now at)) }
+    requires begins { BeginsToken (drop at bytes.now) }
+    ensures { MatchResult result (IsScanned bytes.now at) (FaultAt place (drop at bytes.now)) }
+{
+    let to = number_end(bytes, at);
+    let value = number_value(&bytes[at..to]);
     if value > MAX_NUMBER {
         return Err(LexFault::BigLevel { place });
     }
@@ -91,12 +102,42 @@ fn scan_number(bytes: &[u8], at: usize, place: Place) -> Result<Scanned, LexFaul
     Ok(Scanned { kind, to })
 }
 
-fn scan_symbol(bytes: &[u8], at: usize, place: Place) -> Result<Scanned, LexFault> {
-    let byte = bytes[at];
-    if byte == b'-' && bytes.len() > at + 1 && bytes[at + 1] == b'>' {
+fn number_end(bytes: &[u8], at: usize) -> usize
+    requires { at ≤ length bytes.now }
+    ensures { IsRunEnd is_digit bytes.now at result }
+{
+    let mut to = at;
+    while to < bytes.len() && is_digit(bytes[to]) {
+        to += 1;
+    }
+    to
+}
+
+/// The value of digits, or a greater number than the greatest numeral.
+fn number_value(digits: &[u8]) -> u32
+    ensures { result ≡ min (number_value digits.now) 1000001 }
+{
+    let mut value = 0;
+    for digit in digits {
+        let digit = u32::from(digit.saturating_sub(b'0'));
+        value = (10 * value + digit).min(MAX_NUMBER + 1);
+    }
+    value
+}
+
+/// A symbol.
+fn scan_symbol(bytes: &[u8], at: usize, place: Place) -> Result<Scanned, LexFault>
+    requires within { at < length bytes.now }
+    requires no_name { IsFalse (begins_name (slice_index bytes.now at)) }
+    requires no_number { IsFalse (is_digit (slice_index bytes.now at)) }
+    requires begins { BeginsToken (drop at bytes.now) }
+    ensures { MatchResult result (IsScanned bytes.now at) (FaultAt place (drop at bytes.now)) }
+{
+    if begins_with(bytes, at, b'-', b'>') {
         let kind = TokenKind::Symbol(Symbol::Arrow);
         return Ok(Scanned { kind, to: at + 2 });
     }
+    let byte = bytes[at];
     match symbol(byte) {
         Some(symbol) => {
             let kind = TokenKind::Symbol(symbol);

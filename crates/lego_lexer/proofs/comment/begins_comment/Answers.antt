@@ -1,7 +1,0 @@
-use Rattle.std.proofs.Common.{drop, sym, arith, length-drop}
-use Rattle.lego_lexer.proofs.CommentLemmas.{two_bytes, short_begins_none}
-use Rattle.lego_lexer.proofs.comment.begins_comment.Goals as goal
-
-pub returns-then-bytes-at-lt2 : goal.returns-then-bytes-at-lt2
-returns-then-bytes-at-lt2 c =
-    sym (short_begins_none (drop c.args.at c.args.bytes.now) (omega (arith, length-drop c.args.at c.args.bytes.now)))
