@@ -102,9 +102,9 @@ module _ (bytes : List ℕ) (from start : ℕ) (gap : List ℕ) (g : Gap gap) (t
     pub open_cut : IsOpenComment (drop at bytes) → IsCut from (gap ++ drop start bytes) (Cut.OpenComment at)
     open_cut open_comment =
         let all : gap ++ slice_range bytes start at ++ drop at bytes ≡ gap ++ drop start bytes =
-            append_assoc gap (slice_range bytes start at) (drop at bytes) ∙ ap (λ xs. gap ++ xs) (sym (drop_split bytes start at after)) in
+        append_assoc gap (slice_range bytes start at) (drop at bytes) ∙ ap (λ xs. gap ++ xs) (sym (drop_split bytes start at after)) in
         let index : from + length (gap ++ slice_range bytes start at) ≡ at =
-            omega (arith, slice_length bytes start at after (omega arith), length-append gap (slice_range bytes start at)) in
+        omega (arith, slice_length bytes start at after (omega arith), length-append gap (slice_range bytes start at)) in
         subst (λ xs. IsCut from xs (Cut.OpenComment at)) all
         (subst (λ i. IsCut from (gap ++ slice_range bytes start at ++ drop at bytes) (Cut.OpenComment i)) index
         (IsCut.open_comment (gap_then (slice_range bytes start at) g u) open_comment))

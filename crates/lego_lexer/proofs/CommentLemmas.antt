@@ -117,7 +117,7 @@ module _ (bytes : List ℕ) (at : ℕ) (within : at < length bytes) (begins : be
       let lt2 : at + 1 < end = omega arith in
       let two : at + 1 + 1 ≡ at + 2 = omega arith in
       let text : slice_range bytes at end ≡ get_or bytes at 0 ∷ get_or bytes (at + 1) 0 ∷ slice_range bytes (at + 2) end =
-          slice_cons bytes at end lt within ∙ ap (λ xs. get_or bytes at 0 ∷ xs) (slice_cons bytes (at + 1) end lt2 two_there ∙ ap (λ i. get_or bytes (at + 1) 0 ∷ slice_range bytes i end) two) in
+      slice_cons bytes at end lt within ∙ ap (λ xs. get_or bytes at 0 ∷ xs) (slice_cons bytes (at + 1) end lt2 two_there ∙ ap (λ i. get_or bytes (at + 1) 0 ∷ slice_range bytes i end) two) in
       subst IsComment (sym text) (record {
         begins = ap begins_comment (sym (two_bytes bytes at two_there)) ∙ begins;
         ends = ap (behind_comments 1) (sym same) ∙ s.ends;

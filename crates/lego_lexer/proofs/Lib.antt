@@ -5,3 +5,4 @@ pub mod GapLemmas
 pub mod CommandLemmas
 pub mod TokenLemmas
 pub mod ScanLemmas
+pub mod LexLemmas

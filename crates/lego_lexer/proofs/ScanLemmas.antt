@@ -134,8 +134,8 @@ module _ (bytes : List ℕ) (at : ℕ) (within : at < length bytes) where
       let bytes_are = and_true (nat_eq (get_or bytes at 0) 45) (nat_eq (get_or bytes (at + 1) 0) 62) (sym (begins_at 45 62 at bytes more) ∙ sym h) in
       let two : at + 1 + 1 ≡ at + 2 = omega arith in
       let text : slice_range bytes at (at + 2) ≡ get_or bytes at 0 ∷ get_or bytes (at + 1) 0 ∷ [] =
-          slice_cons bytes at (at + 2) (omega arith) within ∙ ap (λ xs. get_or bytes at 0 ∷ xs)
-          (slice_cons bytes (at + 1) (at + 2) (omega arith) more ∙ ap (λ xs. get_or bytes (at + 1) 0 ∷ xs) (ap (λ i. slice_range bytes i (at + 2)) two ∙ slice_none bytes (at + 2))) in
+      slice_cons bytes at (at + 2) (omega arith) within ∙ ap (λ xs. get_or bytes at 0 ∷ xs)
+      (slice_cons bytes (at + 1) (at + 2) (omega arith) more ∙ ap (λ xs. get_or bytes (at + 1) 0 ∷ xs) (ap (λ i. slice_range bytes i (at + 2)) two ∙ slice_none bytes (at + 2))) in
       let dash : get_or bytes at 0 ≡ 45 = test_equal (get_or bytes at 0) 45 bytes_are.0 in
       let angle : get_or bytes (at + 1) 0 ≡ 62 = test_equal (get_or bytes (at + 1) 0) 62 bytes_are.1 in
       let written : slice_range bytes at (at + 2) ≡ 45 ∷ 62 ∷ [] = text ∙ (ap (λ x. x ∷ get_or bytes (at + 1) 0 ∷ []) dash ∙ ap (λ x. 45 ∷ x ∷ []) angle) in
@@ -147,6 +147,6 @@ module _ (bytes : List ℕ) (at : ℕ) (within : at < length bytes) where
   bad_byte_there place begins name digit arrow none =
       let first : drop at bytes ≡ get_or bytes at 0 ∷ drop (suc at) bytes = drop-cons bytes at 0 within in
       subst (λ xs. FaultAt place xs (BadByte place (get_or bytes at 0))) (sym first) (
-        FaultAt.bad_byte (subst BeginsToken first begins)
-        (no_token_here (get_or bytes at 0) (drop (suc at) bytes) name digit (ap (begins_with 45 62) (sym first) ∙ sym arrow) none)
+      FaultAt.bad_byte (subst BeginsToken first begins)
+      (no_token_here (get_or bytes at 0) (drop (suc at) bytes) name digit (ap (begins_with 45 62) (sym first) ∙ sym arrow) none)
       )

@@ -122,7 +122,6 @@ long_no_symbol b [] c (d ∷ more) h = refl
 long_no_symbol b (x ∷ []) c more h = refl
 long_no_symbol b (x ∷ y ∷ t) c more h = refl
 
-
 -- a run of bytes goes on no further
 abbrev pub Stops : (ℕ → Bool) → List ℕ → Type 0
 Stops p rest = (c : ℕ) (more : List ℕ) → rest ≡ c ∷ more → p c ≡ false
@@ -166,7 +165,7 @@ no_token_here b bytes name digit arrow none (x ∷ []) back e =
       no_word (x ∷ []) (ap (λ y. begins_name y && list_all goes_on_in_name []) same ∙ ap (λ v. v && list_all goes_on_in_name []) name),
       ap (λ y. written_as symbol_text symbols (y ∷ [])) same ∙ none,
       ap (λ y. begins_name y && list_all goes_on_in_name []) same ∙ ap (λ v. v && list_all goes_on_in_name []) name,
-      ap (λ y. is_digit y && list_all is_digit []) same ∙ ap (λ v. v && list_all is_digit []) digit
+      ap (λ y. is_digit y && list_all is_digit []) same ∙ ap (λ v. v && list_all is_digit []) digit,
     ) refl
 no_token_here b bytes name digit arrow none (x ∷ y ∷ front) back e =
     let same : x ≡ b = cc in

@@ -8,8 +8,8 @@ loop-at-preserved c = record {
   passed = omega arith;
   within = omega arith;
   unbroken = λ u h m g. c.loop-at.invariant.unbroken u (omega arith) m (
-    unbroken_past_byte c.args.bytes.now c.loop-at.at u (omega arith) c.loop-at-test.true c.if-bytes-at-eq59.false (sym c.if-begins_comment.false ∙ c.begins_comment.ensures) g
-  );
+      unbroken_past_byte c.args.bytes.now c.loop-at.at u (omega arith) c.loop-at-test.true c.if-bytes-at-eq59.false (sym c.if-begins_comment.false ∙ c.begins_comment.ensures) g
+      );
 }
 
 pub loop-at-preserved-in-Some : goal.loop-at-preserved-in-Some
@@ -19,7 +19,7 @@ loop-at-preserved-in-Some c = record {
   unbroken = λ u h m g.
       let far : c.loop-at.at + 2 < c.in-Some.end = c.in-Some.ensures.within.0 in
       c.loop-at.invariant.unbroken u (omega arith) m (
-        unbroken_past_comment c.args.bytes.now c.loop-at.at c.in-Some.end u c.loop-at-test.true far h (sym c.if-begins_comment.true ∙ c.begins_comment.ensures) c.in-Some.ensures.ends g
+      unbroken_past_comment c.args.bytes.now c.loop-at.at c.in-Some.end u c.loop-at-test.true far h (sym c.if-begins_comment.true ∙ c.begins_comment.ensures) c.in-Some.ensures.ends g
       );
 }
 

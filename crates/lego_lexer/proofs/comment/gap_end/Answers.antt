@@ -18,7 +18,7 @@ loop-at-preserved c = record {
   gap = λ u h m g.
       let far : c.loop-at.at + 2 < c.in-Some.end = c.in-Some.ensures.within.0 in
       c.loop-at.invariant.gap u (omega arith) m (
-        gap_past_comment c.args.bytes.now c.loop-at.at c.in-Some.end u c.loop-at-test.true far h (sym c.if-begins_comment.true ∙ c.begins_comment.ensures) c.in-Some.ensures.ends g
+      gap_past_comment c.args.bytes.now c.loop-at.at c.in-Some.end u c.loop-at-test.true far h (sym c.if-begins_comment.true ∙ c.begins_comment.ensures) c.in-Some.ensures.ends g
       );
 }
 
