@@ -11,3 +11,6 @@ mod tokens;
 pub use commands::cut;
 pub use token::{Cut, LexFault, Symbol, Token, TokenKind, Word};
 pub use tokens::lex;
+
+#[cfg(test)]
+mod tests;
