@@ -5,13 +5,13 @@ mod answer;
 mod reading;
 mod refusal;
 mod refusal_text;
-mod session;
-mod text;
 mod running;
 mod script;
+mod session;
 mod status;
 #[cfg(test)]
 mod tests;
+mod text;
 
 pub use refusal::{Cause, Refusal};
 pub use running::run;

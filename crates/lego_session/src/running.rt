@@ -1,21 +1,21 @@
 //! The run of a script: its commands are answered one after the other, and the development follows.
-ghost use Rattle.std.specs.Prelude.{◌≡◌, ◌≢◌, ◌≤◌, ◌++◌, [], List, length, codes, IfOk, IfErr, ◌⊎◌};
+ghost use Rattle.std.specs.Prelude.{◌≡◌, ◌≢◌, ◌≤◌, [], List, length, IfOk, IfErr, ◌⊎◌};
 ghost use Rattle.lego_base.specs.Causes.{Rose};
-ghost use Rattle.lego_grammar.specs.Grammar.{Names as NameTexts};
 ghost use Rattle.lego_session.specs.Names.{AreKnown};
 ghost use Rattle.lego_session.specs.Outcomes.{Outcome, UsageOutcome, IsAcceptable};
 ghost use Rattle.lego_session.specs.Progress.{IsNear, IsNext, AreAnswered, Halted, Finished, ending_of};
-ghost use Rattle.lego_session.specs.Refusals.{place_text};
 ghost use Rattle.lego_session.specs.Runs.{ending_text, closing_text};
 ghost use Rattle.lego_kernel.specs.Contexts.{IsContext};
 ghost use Rattle.lego_kernel.specs.declared.entry.Entry.{Entry as Item};
 
 use crate::answer::answer;
+use crate::refusal::Cause;
+use crate::refusal_text::refusal_text;
 use crate::script::{End, MAX_SCRIPT, read_all};
 use crate::session::Session;
 use crate::status::Status;
-use itoa::Buffer;
 use lego_base::{Failed, Names, Place, Sink, Source, after, send};
+use lego_kernel::Context;
 use lego_lexer::{Cut, cut};
 use std::alloc::{AllocError, Global};
 
@@ -113,30 +113,17 @@ fn answer_all<K: Sink>(alloc: Global, text: &[u8], out: &mut K) -> Result<AllAns
     }
 }
 
-/// A refusal's line, for a cause without a term or a name.
-fn refusal(alloc: Global, place: Place, cause: &[u8]) -> Result<Vec<u8>, AllocError>
-    ensures { IfOk result (λ text. text.items ≡ codes "refused " ++ place_text place ++ codes " " ++ cause.now ++ codes "\n") }
-{
-    let mut digits = Buffer::new();
-    let mut text = Vec::from_slice(alloc, b"refused ")?;
-    text.extend_from_slice(digits.format(place.line).as_bytes())?;
-    text.extend_from_slice(b":")?;
-    text.extend_from_slice(digits.format(place.column).as_bytes())?;
-    text.extend_from_slice(b" ")?;
-    text.extend_from_slice(cause)?;
-    text.extend_from_slice(b"\n")?;
-    Ok(text)
-}
-
 /// The refusal of what stands behind the last command, if it is refused.
-fn refusal_of_rest(alloc: Global, rest: Rest) -> Result<Vec<u8>, AllocError>
-    ensures { IfOk result (λ text. (names : NameTexts) (es : List Item) → text.items ≡ ending_text names es (ending_of rest)) }
+fn refusal_of_rest(alloc: Global, names: &Names, rest: Rest) -> Result<Vec<u8>, AllocError>
+    ensures { IfOk result (λ text. (es : List Item) → text.items ≡ ending_text names.now es (ending_of rest)) }
 {
-    match rest {
-        Rest::Blank => Ok(Vec::new(alloc)),
-        Rest::Unended { place } => refusal(alloc, place, b"7 Unended"),
-        Rest::OpenComment { place } => refusal(alloc, place, b"2 OpenComment"),
-    }
+    let (place, cause) = match rest {
+        Rest::Blank => return Ok(Vec::new(alloc)),
+        Rest::Unended { place } => (place, Cause::Unended),
+        Rest::OpenComment { place } => (place, Cause::OpenComment),
+    };
+    // Its text names no entry, so any context serves.
+    refusal_text(alloc, names, &Context::new(alloc), place, &cause)
 }
 
 /// What follows the answers.
@@ -150,7 +137,7 @@ fn closing(
     ensures text { IfOk result (λ text. text.items ≡ closing_text names.now session.now (ending_of rest)) }
     ensures valid { IfOk result (λ text. IsContext session.now) }
 {
-    let mut text = refusal_of_rest(alloc, rest)?;
+    let mut text = refusal_of_rest(alloc, names, rest)?;
     let development = session.development(names)?;
     text.extend_from_slice(&development)?;
     Ok(text)
