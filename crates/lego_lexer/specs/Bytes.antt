@@ -1,5 +1,7 @@
 -- Bytes of a script: blanks, letters, digits and comments.
 use Rattle.std.specs.Prelude.{◌≡◌, ℕ, zero, suc, List, [], ◌∷◌, ◌++◌, Bool, false, ◌&&◌, ◌||◌, nat_eq, nat_le, if◌then◌else◌, Option, Some, None, IsTrue, IsFalse, drop, get_or}
+use Rattle.lego_lexer.specs.declared.comment.Delimiter.{Delimiter}
+use Rattle.lego_lexer.specs.declared.comment.Delimiter.TheVariants.{Opens, Closes, Neither}
 
 abbrev pub is_between : ℕ → ℕ → ℕ → Bool
 is_between low high byte = nat_le low byte && nat_le byte high
@@ -22,9 +24,6 @@ abbrev pub goes_on_in_name : ℕ → Bool
 goes_on_in_name byte = begins_name byte || is_digit byte || nat_eq byte 39
 
 -- two bytes: `(*`, `*)`, or neither
-pub data Delimiter : Type 0 where
-  Opens Closes Neither : Delimiter
-
 abbrev pub delimiter : ℕ → ℕ → Delimiter
 delimiter b c = if nat_eq b 40 && nat_eq c 42 then Opens else if nat_eq b 42 && nat_eq c 41 then Closes else Neither
 
@@ -40,11 +39,15 @@ behind_comments (suc depth) (b ∷ c ∷ bytes) =
       | Neither ↦ behind_comments (suc depth) (c ∷ bytes)
     ]
 
+-- the bytes begin with these two
+abbrev pub begins_with : ℕ → ℕ → List ℕ → Bool
+begins_with first second [] = false
+begins_with first second (b ∷ []) = false
+begins_with first second (b ∷ c ∷ bytes) = nat_eq b first && nat_eq c second
+
 -- the bytes begin with `(*`
 abbrev pub begins_comment : List ℕ → Bool
-begins_comment [] = false
-begins_comment (b ∷ []) = false
-begins_comment (b ∷ c ∷ bytes) = nat_eq b 40 && nat_eq c 42
+begins_comment bytes = begins_with 40 42 bytes
 
 -- the bytes are one whole comment
 pub record IsComment (text : List ℕ) : Type 0 where

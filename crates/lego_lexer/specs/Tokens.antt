@@ -22,35 +22,64 @@ pub data Lexeme : Type 0 where
   OfWord : Word → Lexeme
   OfSymbol : Symbol → Lexeme
 
--- a text and what it spells
-pub record Spelling (X : Type 0) : Type 0 where
-  pub text : List ℕ
-  pub means : X
+-- what each reserved word is written as, in ASCII
+abbrev pub word_text : Word → List ℕ
+word_text Prop = codes "Prop"
+word_text AnyType = codes "Type"
+word_text Goal = codes "Goal"
+word_text Intros = codes "Intros"
+word_text Refine = codes "Refine"
+word_text Claim = codes "Claim"
+word_text Next = codes "Next"
+word_text Assumption = codes "Assumption"
+word_text Equiv = codes "Equiv"
+word_text Save = codes "Save"
+word_text KillRef = codes "KillRef"
+word_text Undo = codes "Undo"
+word_text Forget = codes "Forget"
+word_text Discharge = codes "Discharge"
+word_text Prf = codes "Prf"
+word_text Ctxt = codes "Ctxt"
+word_text Hnf = codes "Hnf"
+word_text Normal = codes "Normal"
+word_text Explicit = codes "Explicit"
+word_text Implicit = codes "Implicit"
+word_text Module = codes "Module"
+word_text Import = codes "Import"
 
-abbrev pub spells : {X : Type 0} → List ℕ → X → Spelling X
-spells text means = record { text = text; means = means }
-
-abbrev pub words : List (Spelling Word)
+abbrev pub words : List Word
 words =
-    spells (codes "Prop") Prop ∷ spells (codes "Type") AnyType ∷ spells (codes "Goal") Goal ∷ spells (codes "Intros") Intros
-    ∷ spells (codes "Refine") Refine ∷ spells (codes "Claim") Claim ∷ spells (codes "Next") Next
-    ∷ spells (codes "Assumption") Assumption ∷ spells (codes "Equiv") Equiv ∷ spells (codes "Save") Save
-    ∷ spells (codes "KillRef") KillRef ∷ spells (codes "Undo") Undo ∷ spells (codes "Forget") Forget
-    ∷ spells (codes "Discharge") Discharge ∷ spells (codes "Prf") Prf ∷ spells (codes "Ctxt") Ctxt
-    ∷ spells (codes "Hnf") Hnf ∷ spells (codes "Normal") Normal ∷ spells (codes "Explicit") Explicit
-    ∷ spells (codes "Implicit") Implicit ∷ spells (codes "Module") Module ∷ spells (codes "Import") Import ∷ []
+    Prop ∷ AnyType ∷ Goal ∷ Intros ∷ Refine ∷ Claim ∷ Next ∷ Assumption ∷ Equiv ∷ Save ∷ KillRef
+    ∷ Undo ∷ Forget ∷ Discharge ∷ Prf ∷ Ctxt ∷ Hnf ∷ Normal ∷ Explicit ∷ Implicit ∷ Module ∷ Import ∷ []
 
-abbrev pub symbols : List (Spelling Symbol)
+-- what each symbol is written as
+abbrev pub symbol_text : Symbol → List ℕ
+symbol_text OpenSquare = codes "["
+symbol_text CloseSquare = codes "]"
+symbol_text OpenBrace = codes "{"
+symbol_text CloseBrace = codes "}"
+symbol_text OpenAngle = codes "<"
+symbol_text CloseAngle = codes ">"
+symbol_text OpenParen = codes "("
+symbol_text CloseParen = codes ")"
+symbol_text Colon = codes ":"
+symbol_text Semicolon = codes ";"
+symbol_text Comma = codes ","
+symbol_text Equals = codes "="
+symbol_text Dot = codes "."
+symbol_text Hash = codes "#"
+symbol_text Question = codes "?"
+symbol_text Arrow = codes "->"
+symbol_text Bar = codes "|"
+
+abbrev pub symbols : List Symbol
 symbols =
-    spells (codes "[") OpenSquare ∷ spells (codes "]") CloseSquare ∷ spells (codes "{") OpenBrace ∷ spells (codes "}") CloseBrace
-    ∷ spells (codes "<") OpenAngle ∷ spells (codes ">") CloseAngle ∷ spells (codes "(") OpenParen ∷ spells (codes ")") CloseParen
-    ∷ spells (codes ":") Colon ∷ spells (codes ";") Semicolon ∷ spells (codes ",") Comma ∷ spells (codes "=") Equals
-    ∷ spells (codes ".") Dot ∷ spells (codes "#") Hash ∷ spells (codes "?") Question ∷ spells (codes "->") Arrow
-    ∷ spells (codes "|") Bar ∷ []
+    OpenSquare ∷ CloseSquare ∷ OpenBrace ∷ CloseBrace ∷ OpenAngle ∷ CloseAngle ∷ OpenParen ∷ CloseParen
+    ∷ Colon ∷ Semicolon ∷ Comma ∷ Equals ∷ Dot ∷ Hash ∷ Question ∷ Arrow ∷ Bar ∷ []
 
--- what the text spells in a table
-abbrev pub meaning : {X : Type 0} → List (Spelling X) → List ℕ → Option X
-meaning table text = option_map (λ s. s.means) (find (λ s. same_text s.text text) table)
+-- which of these is written as the text
+abbrev pub written_as : {X : Type 0} → (X → List ℕ) → List X → List ℕ → Option X
+written_as text_of all text = find (λ x. same_text (text_of x) text) all
 
 -- a letter or `_`, then letters, digits, `_` and `'`
 abbrev pub has_name_form : List ℕ → Bool
@@ -72,8 +101,8 @@ or_else (Some x) other = Some x
 -- the token that the whole text is, if it is one; a reserved word is no name
 abbrev pub token_of : List ℕ → Option Lexeme
 token_of text =
-    or_else (option_map OfWord (meaning words text))
-    (or_else (option_map OfSymbol (meaning symbols text))
+    or_else (option_map OfWord (written_as word_text words text))
+    (or_else (option_map OfSymbol (written_as symbol_text symbols text))
     (or_else (if has_name_form text then Some (Name text) else None)
     (if has_number_form text then Some (Number (number_value text)) else None)))
 

@@ -1,0 +1,8 @@
+pub mod SpellingLemmas
+pub mod SliceLemmas
+pub mod CommentLemmas
+pub mod GapLemmas
+pub mod CommandLemmas
+pub mod TokenLemmas
+pub mod ScanLemmas
+pub mod LexLemmas
