@@ -9,7 +9,7 @@ use Rattle.lego_kernel.specs.declared.fault.Counted.TheVariants.{Entries, Levels
 use Rattle.lego_session.specs.Names.{name_text}
 use Rattle.lego_session.specs.Texts.{type_text}
 use Rattle.lego_session.specs.declared.refusal.Cause.{Cause}
-use Rattle.lego_session.specs.declared.refusal.Cause.TheVariants.{BadByte, OpenComment, LongName, BigLevel, Unexpected, TooDeep, Unended, LongCommand, NamesFull, UnknownName, NameInUse, NotAType, Full, Memory}
+use Rattle.lego_session.specs.declared.refusal.Cause.TheVariants.{BadByte, OpenComment, LongName, BigLevel, Unexpected, TooDeep, Unended, LongCommand, NamesFull, UnknownName, NameInUse, NotAType, TooLarge, Full, Memory}
 
 -- a place: its line, a colon, its column
 abbrev pub place_text : Place → List ℕ
@@ -45,6 +45,7 @@ cause_text names es NamesFull = codes "9 NamesFull"
 cause_text names es (UnknownName name) = codes "10 UnknownName " ++ name_text names name
 cause_text names es (NameInUse name) = codes "12 NameInUse " ++ name_text names name
 cause_text names es (NotAType term got) = codes "13 NotAType " ++ seen_text names es term ++ codes " : " ++ seen_text names es got
+cause_text names es (TooLarge nodes levels) = codes "19 TooLarge " ++ decimal nodes ++ codes ", " ++ decimal levels
 cause_text names es (Full of held) = codes "21 Full " ++ counted_text of ++ decimal held
 cause_text names es Memory = []
 

@@ -12,11 +12,11 @@ use Rattle.lego_kernel.specs.Assuming.{IsTypeAlways, NoTypeIn}
 use Rattle.lego_kernel.specs.Entries.{laws_entries, position_of, assumption}
 use Rattle.lego_kernel.specs.declared.entry.Entry.{Entry as Item}
 use Rattle.lego_kernel.specs.declared.fault.Counted.TheVariants.{Entries}
-use Rattle.lego_session.specs.Reading.{ReadsType, FirstUnknown}
+use Rattle.lego_session.specs.Reading.{ReadsType, FirstUnknown, FirstTooLarge}
 use Rattle.lego_session.specs.Refusals.{refusal_text}
 use Rattle.lego_session.specs.Texts.{entry_lines}
 use Rattle.lego_session.specs.declared.refusal.Cause.{Cause}
-use Rattle.lego_session.specs.declared.refusal.Cause.TheVariants.{UnknownName, NameInUse, NotAType, Full}
+use Rattle.lego_session.specs.declared.refusal.Cause.TheVariants.{UnknownName, NameInUse, NotAType, TooLarge, Full}
 
 -- name i of a list is new: no entry has it, and it stands at no earlier place of the list
 pub record IsNew (es : List Item) (ns : List ℕ) (i n : ℕ) : Type 0 where
@@ -54,12 +54,15 @@ pub data BindsAll : List Item → List Bound → List Item → Type 0 where
   none : {es : List Item} → BindsAll es [] es
   more : {es mid new : List Item} {b : Bound} {bs : List Bound} → Binds es b mid → BindsAll mid bs new → BindsAll es (b ∷ bs) new
 
--- Why a binding is refused over these entries, and where: the first name that isn't new, an unknown name, no type, no room.
+-- Why a binding is refused over these entries, and where: the first name that isn't new, an unknown name, a core that passes
+-- a limit, no type, no room.
 pub data IsBindingRefused (es : List Item) (b : Bound) : Place → Cause → Type 0 where
   in_use : {n : ℕ} {p : Place} (i : ℕ) → FirstAreNew es b.names i → slice_get b.names i ≡ Some n → slice_get b.places i ≡ Some p
       → (IsNew es b.names i n → ⊥) → IsBindingRefused es b p (NameInUse n)
   unknown : {n : ℕ} {p : Place} {written : Written} → AreNew es b.names → b.says ≡ Assumed Plain written → FirstUnknown es written p n
       → IsBindingRefused es b p (UnknownName n)
+  too_large : {i j : ℕ} {written : Written} → AreNew es b.names → b.says ≡ Assumed Plain written → FirstTooLarge es written i j
+      → IsBindingRefused es b b.place (TooLarge i j)
   no_type : {ty : Core} {term got : Seen} → IsRead es b ty → NoTypeIn (laws_entries es) ty term got
       → IsBindingRefused es b b.place (NotAType term got)
   full : {ty : Core} → IsRead es b ty → IsTypeAlways (laws_entries es) ty → 65536 < length es + length b.names

@@ -2,8 +2,11 @@
 #![tactic(auto)]
 
 mod answer;
+mod reading;
 mod refusal;
+mod refusal_text;
 mod session;
+mod text;
 
 pub use refusal::{Cause, Refusal};
 pub use session::Session;

@@ -32,6 +32,8 @@ pub enum Cause {
     NameInUse { name: u32 },
     /// `term` stands where a type is wanted, and its rule type `got` is no sort.
     NotAType { term: Seen, got: Seen },
+    /// A term of this size and depth, one of which is over its limit.
+    TooLarge { size: u64, depth: u32 },
     /// `held` are held, which is the limit.
     Full { of: Counted, held: u32 },
     /// Memory ran out.
