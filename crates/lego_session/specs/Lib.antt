@@ -5,3 +5,4 @@ pub mod Refusals
 pub mod Steps
 pub mod Commands
 pub mod Denotes
+pub mod Printable
