@@ -6,14 +6,15 @@ use Rattle.std.proofs.lemmas.List.Elements.{All-weaker, All-push, All-contains}
 use Rattle.lego_base.specs.declared.place.Place.{Place}
 use Rattle.lego_term.specs.Trees.{Core}
 use Rattle.lego_term.specs.declared.binder.Mark.TheVariants.{Plain}
+use Rattle.lego_lexer.specs.Commands.{CommandText}
 use Rattle.lego_lexer.specs.Tokens.{Name, Placed, Tokens, token_of}
 use Rattle.lego_grammar.specs.Grammar.{Names, Nested, Item as Token, item, Parses, NameList, ReadsBinding, ReadsBindings, ReadsAct, ReadsCommand, TermWord, NumberWord, NameWord, LoneWord}
 use Rattle.lego_grammar.specs.Written.{Bound, Deed, NameAt, Order}
 use Rattle.lego_kernel.specs.Entries.{assumption}
 use Rattle.lego_kernel.specs.declared.entry.Entry.{Entry as Item}
-use Rattle.lego_session.specs.Commands.{grammar_tokens}
+use Rattle.lego_session.specs.Commands.{grammar_tokens, Answers}
 use Rattle.lego_session.specs.Names.{IsHeldName, Grows, AreKnown}
-use Rattle.lego_session.specs.Steps.{assume_all, Binds, BindsAll}
+use Rattle.lego_session.specs.Steps.{assume_all, Binds, BindsAll, Step, Answer}
 use Rattle.lego_session.proofs.DenotesNames.{front_at}
 use Rattle.lego_session.proofs.TokenLemmas.{IsTrueName, AreTrueNames, tokens_are_names}
 
@@ -123,3 +124,14 @@ binds_known names (BindsAll.more {es = es} {b = b} h rest) held known =
 pub bound_known : {names : Names} {place : Place} {bytes : List ℕ} {tokens : List Placed} {o : Order} {bs : List Bound} {old new : List Item}
     → Parses names (grammar_tokens tokens) o → Tokens place bytes tokens → o.deed ≡ Deed.Bindings bs → AreKnown names old → BindsAll old bs new → AreKnown names new
 bound_known {names} {bs = bs} parses lexed is known binds = binds_known names binds (binding_names_held bs parses lexed is) known
+
+step_known : {names : Names} {place : Place} {bytes : List ℕ} {tokens : List Placed} {old new : List Item} {o : Order} {a : Answer}
+    → Step names old o a new → Parses names (grammar_tokens tokens) o → Tokens place bytes tokens → AreKnown names old → AreKnown names new
+step_known (Step.accepted is h) parses lexed known = bound_known parses lexed is known h
+step_known (Step.refused is h) parses lexed known = known
+
+-- a command that is answered leaves entries whose names are held
+pub answered_known : {held names : Names} {old new : List Item} {c : CommandText} {a : Answer}
+    → Answers held old c a names new → AreKnown held old → AreKnown names new
+answered_known {old = old} (Answers.step g command built h) known = step_known h command.parsed command.lexed.lexed (known_more old g known)
+answered_known {old = old} (Answers.unread g h) known = known_more old g known

@@ -6,3 +6,4 @@ pub mod DenotesNames
 pub mod DenotesTypes
 pub mod DenotesEntries
 pub mod DenotesLemmas
+pub mod DenotesPrintable
