@@ -1,27 +1,22 @@
 -- The command of an entry declares it.
-use Rattle.std.proofs.Common.{◌≡◌, ℕ, ◌<◌, List, [], ◌∷◌, ◌++◌, map, length, Some, refl, sym, ap, ◌∙◌, subst, append_assoc}
-use Rattle.std.specs.Prelude.{slice_get}
+use Rattle.std.proofs.Common.{◌≡◌, ℕ, List, [], ◌∷◌, ◌++◌, map, length, Some, refl, sym, ap, ◌∙◌, subst, append_assoc}
 use Rattle.lego_base.specs.declared.place.Place.{Place}
 use Rattle.lego_term.specs.declared.binder.Mark.TheVariants.{Plain}
 use Rattle.lego_lexer.specs.Bytes.{Gap}
 use Rattle.lego_lexer.specs.Commands.{Unbroken}
-use Rattle.lego_lexer.specs.Tokens.{Name, OfWord, OfSymbol, Point, Placed, Reads as Lexes, Tokens, start}
-use Rattle.lego_lexer.specs.declared.token.Word.TheVariants as Word
+use Rattle.lego_lexer.specs.Tokens.{Name, OfSymbol, Point, Placed, Reads as Lexes, start}
 use Rattle.lego_lexer.specs.declared.token.Symbol.TheVariants.{OpenSquare, CloseSquare, Colon, Semicolon}
 use Rattle.lego_lexer.proofs.LexLemmas.{reads_join}
-use Rattle.lego_lexer.proofs.TokenLemmas.{name_longest, symbol_longest}
-use Rattle.lego_grammar.specs.Grammar.{Names, Nested, Item as Token, Term, item, symbol, word, token, Parses, NameList, ReadsBinding, ReadsBindings, ReadsAct, ReadsCommand, LoneWord}
+use Rattle.lego_lexer.proofs.TokenLemmas.{symbol_longest}
+use Rattle.lego_grammar.specs.Grammar.{Names, Nested, Item as Token, Term, item, symbol, token, NameList, ReadsBinding, ReadsBindings, ReadsAct, ReadsCommand}
 use Rattle.lego_grammar.specs.Written.{Assumed, Deed}
-use Rattle.lego_kernel.specs.Simple.{IsSimple}
 use Rattle.lego_kernel.specs.declared.entry.Entry.{Entry as Item}
 use Rattle.lego_session.specs.Commands.{grammar_tokens}
-use Rattle.lego_session.specs.Denotes.{ReadsAs, Declares}
+use Rattle.lego_session.specs.Denotes.{Declares}
 use Rattle.lego_session.specs.Names.{IsHeldName}
 use Rattle.lego_session.specs.Printable.{IsPlain}
-use Rattle.lego_session.specs.Texts.{type_text}
-use Rattle.lego_session.proofs.DenotesNames.{ConstantIs}
 use Rattle.lego_session.proofs.DenotesTexts.{IsQuiet, name_text_is, name_begins, begins_there, byte_unbroken}
-use Rattle.lego_session.proofs.DenotesTypes.{here, after, lex_one, same_join, stops_at, name_lexeme, IsTypeRead, type_read}
+use Rattle.lego_session.proofs.DenotesTypes.{here, after, lex_one, same_join, stops_at, name_lexeme, IsTypeRead}
 use Rattle.lego_session.proofs.TokenLemmas.{name_form}
 
 -- `[name:type]`
@@ -87,9 +82,9 @@ module _ (names : Names) (before : List Item) (place : Place) (n : ℕ) (h : IsH
   the_same : map item the_nested ≡ grammar_tokens the_tokens
   the_same =
       let tail : map item ((r.nested ++ close ∷ []) ++ semicolon ∷ []) ≡ grammar_tokens (r.tokens ++ last_tokens) =
-          ap (map item) (append_assoc r.nested (close ∷ []) (semicolon ∷ [])) ∙ same_join r.nested (close ∷ semicolon ∷ []) r.tokens last_tokens r.same refl in
+      ap (map item) (append_assoc r.nested (close ∷ []) (semicolon ∷ [])) ∙ same_join r.nested (close ∷ semicolon ∷ []) r.tokens last_tokens r.same refl in
       ap (λ (xs : List Token). record { lexeme = OfSymbol OpenSquare; place = place } ∷ record { lexeme = Name h.text; place = (behind_open place).place }
-        ∷ record { lexeme = OfSymbol Colon; place = (behind_name place h.text).place } ∷ xs) tail
+      ∷ record { lexeme = OfSymbol Colon; place = (behind_name place h.text).place } ∷ xs) tail
 
   pub entry_declared : e.number ≡ length before → IsPlain e → e.name ≡ Some n
       → Declares names before (record { place = place; bytes = body_of h.text text ++ 59 ∷ [] }) e
@@ -110,7 +105,7 @@ module _ (names : Names) (before : List Item) (place : Place) (n : ℕ) (h : IsH
         nested = the_nested;
         same = the_same;
         reads = ReadsCommand.command (after r.end (93 ∷ [])).place (ReadsAct.bindings (ReadsBindings.one
-          (ReadsBinding.assume place (behind_name place h.text).place r.end.place (NameList.one h.held) r.parsed)));
+            (ReadsBinding.assume place (behind_name place h.text).place r.end.place (NameList.one h.held) r.parsed)));
       };
     };
     binding = record { place = place; places = (behind_open place).place ∷ []; names = n ∷ []; says = Assumed Plain r.written };

@@ -1,6 +1,6 @@
 -- The text of a development reads back as its entries.
-use Rattle.std.proofs.Common.{◌≡◌, ℕ, suc, ◌+◌, ◌<◌, List, [], ◌∷◌, ◌++◌, length, Some, refl, sym, ap, ap₂, ◌∙◌, subst, arith, append_assoc, append-nil, length-append}
-use Rattle.std.specs.Prelude.{All, codes}
+use Rattle.std.proofs.Common.{◌≡◌, ℕ, suc, ◌+◌, List, [], ◌∷◌, ◌++◌, length, Some, refl, sym, ap, ◌∙◌, subst, arith, append_assoc, length-append}
+use Rattle.std.specs.Prelude.{All}
 use Rattle.std.specs.List.{flat_map}
 use Rattle.std.proofs.lemmas.List.Elements.{All-head, All-tail}
 use Rattle.lego_base.specs.Place.{behind}
@@ -19,9 +19,9 @@ use Rattle.lego_kernel.specs.declared.entry.Entry.{Entry as Item}
 use Rattle.lego_session.specs.Denotes.{ReadsAs, DeclareAll, Denotes}
 use Rattle.lego_session.specs.Names.{IsHeldName, AreKnown}
 use Rattle.lego_session.specs.Printable.{IsPlain, IsPrintable}
-use Rattle.lego_session.specs.Texts.{entry_name, entry_command, type_text, development_text}
-use Rattle.lego_session.proofs.DenotesEntries.{body_of, body_with, body_unbroken, entry_declared}
-use Rattle.lego_session.proofs.DenotesNames.{ConstantIs, constant_is, printed_name}
+use Rattle.lego_session.specs.Texts.{entry_command, type_text, development_text}
+use Rattle.lego_session.proofs.DenotesEntries.{body_of, body_unbroken, entry_declared}
+use Rattle.lego_session.proofs.DenotesNames.{constant_is, printed_name}
 use Rattle.lego_session.proofs.DenotesTexts.{begins_there, byte_unbroken, quiet_name, name_text_is}
 use Rattle.lego_session.proofs.DenotesTypes.{here, after, lex_one, stops_at, type_read, quiet_text}
 use Rattle.lego_session.proofs.TokenLemmas.{name_form}
@@ -43,8 +43,8 @@ explicit_read names place =
         end = after next (59 ∷ []);
         gap = [];
         reads = lex_one explicit_bytes (59 ∷ []) (begins_there 69 _ refl refl)
-          (name_longest 69 (120 ∷ 112 ∷ 108 ∷ 105 ∷ 99 ∷ 105 ∷ 116 ∷ []) (59 ∷ []) (OfWord Word.Explicit) refl (stops_at 59 [] refl) refl)
-          (lex_one (59 ∷ []) [] (begins_there 59 [] refl refl) (symbol_longest 59 [] Semicolon refl refl refl) Lexes.none);
+            (name_longest 69 (120 ∷ 112 ∷ 108 ∷ 105 ∷ 99 ∷ 105 ∷ 116 ∷ []) (59 ∷ []) (OfWord Word.Explicit) refl (stops_at 59 [] refl) refl)
+            (lex_one (59 ∷ []) [] (begins_there 59 [] refl refl) (symbol_longest 59 [] Semicolon refl refl refl) Lexes.none);
         blank = Gap.none;
       };
       parsed = record {
@@ -83,13 +83,13 @@ module _ (names : Names) (es : List Item) (simple : AreSimple 0 es) (known : Are
       let tail = others (behind p ((10 ∷ []) ++ body ++ 59 ∷ [])) in
       let begins = begins_there 91 ((h.text ++ 58 ∷ (text ++ 93 ∷ [])) ++ 59 ∷ 10 ∷ more) refl refl in
       let line : (10 ∷ []) ++ body ++ 59 ∷ 10 ∷ more ≡ 10 ∷ flat_map (entry_command names es) (e ∷ rest) =
-          ap (λ (xs : List ℕ). 10 ∷ xs) (sym (line_is h.text text more)
-          ∙ ap (λ (x : List ℕ). (((91 ∷ x) ++ 58 ∷ []) ++ text) ++ 93 ∷ 59 ∷ 10 ∷ [] ++ more) (sym (printed_name names e name.0 h name.1))) in
+      ap (λ (xs : List ℕ). 10 ∷ xs) (sym (line_is h.text text more)
+      ∙ ap (λ (x : List ℕ). (((91 ∷ x) ++ 58 ∷ []) ++ text) ++ 93 ∷ 59 ∷ 10 ∷ [] ++ more) (sym (printed_name names e name.0 h name.1))) in
       let r = (type_read names es before constants e.ty type plain.1).0 1 (after (after (after (start q) (91 ∷ [])) h.text) (58 ∷ [])) (93 ∷ 59 ∷ []) (stops_at 93 (59 ∷ []) refl) in
       record {
         commands = record { place = q; bytes = body ++ 59 ∷ [] } ∷ tail.commands;
         cut = subst (λ (xs : List ℕ). Cuts p xs (record { place = q; bytes = body ++ 59 ∷ [] } ∷ tail.commands) Whole) line
-          (Cuts.command newline unbroken begins tail.cut);
+            (Cuts.command newline unbroken begins tail.cut);
         declares = DeclareAll.more (entry_declared names before q name.0 h text e r number plain name.1) tail.declares;
       }
 
@@ -103,7 +103,7 @@ module _ (names : Names) (es : List Item) (simple : AreSimple 0 es) (known : Are
       (All-head IsPlain e rest plain)
       (All-head (λ (x : Item). (n : ℕ) × (x.name ≡ Some n) × IsHeldName names n) e rest named) p
       (λ q. all_declared rest (before ++ e ∷ []) parts (subst (λ k. AreSimple k rest) longer numbers.2)
-        (All-tail (λ (x : Item). (n : ℕ) × (x.name ≡ Some n) × IsHeldName names n) e rest named) (All-tail IsPlain e rest plain) q)
+      (All-tail (λ (x : Item). (n : ℕ) × (x.name ≡ Some n) × IsHeldName names n) e rest named) (All-tail IsPlain e rest plain) q)
 
 -- what is printed denotes the entries, wherever it begins
 pub development_denotes : (names : Names) (es : List Item) (place : Place) → AreKnown names es → IsContext es → IsPrintable es

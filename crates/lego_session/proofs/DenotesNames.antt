@@ -1,5 +1,5 @@
 -- The constants of a type, by their names among the entries before it.
-use Rattle.std.proofs.Common.{◌≡◌, ℕ, zero, suc, ◌+◌, ◌<◌, ◌≤◌, Bool, true, false, nat_eq, nat_lt, if◌then◌else◌, List, [], ◌∷◌, ◌++◌, length, get_or, find, Option, Some, None, option_map, unwrap_or, refl, sym, ap, ◌∙◌, subst, arith, add-zero}
+use Rattle.std.proofs.Common.{◌≡◌, ℕ, zero, suc, ◌+◌, ◌<◌, Bool, true, false, nat_eq, nat_lt, List, [], ◌∷◌, ◌++◌, length, get_or, find, Option, Some, None, option_map, unwrap_or, refl, sym, ap, ◌∙◌, subst, arith, add-zero}
 use Rattle.std.specs.Prelude.{slice_get, All, position}
 use Rattle.std.specs.List.{position_or_len}
 use Rattle.std.proofs.lemmas.Bool.Decides.{nat_tests}
@@ -89,12 +89,12 @@ module _ (names : Names) (es before after : List Item) (split : es ≡ before ++
   first_of : (n k : ℕ) (e : Item) → k < length before → slice_get before k ≡ Some e → e.name ≡ Some n → position_of before n ≡ Some k
   first_of n k e l h is =
       let others : (i : ℕ) → i < k → is_named n (get_or before i e) ≡ false =
-          λ i m. is_named_else n (get_or before i e) (λ same.
-            let at_i : slice_get before i ≡ Some (get_or before i e) = slice_get-get_or before i e (omega arith) in
-            let places : i ≡ k = differ i k (get_or before i e) e (in_all i (get_or before i e) at_i) (in_all k e h) (same ∙ sym is) in
-            absurd (omega arith)) in
+      λ i m. is_named_else n (get_or before i e) (λ same.
+      let at_i : slice_get before i ≡ Some (get_or before i e) = slice_get-get_or before i e (omega arith) in
+      let places : i ≡ k = differ i k (get_or before i e) e (in_all i (get_or before i e) at_i) (in_all k e h) (same ∙ sym is) in
+      absurd (omega arith)) in
       let this : k < length before → is_named n (get_or before k e) ≡ true =
-          λ m. ap (is_named n) (get_or_from_slice_get before k e e h) ∙ is_named_so n e is in
+      λ m. ap (is_named n) (get_or_from_slice_get before k e e h) ∙ is_named_so n e is in
       let place : position_or_len (is_named n) before ≡ k = position_or_len_is (is_named n) before k e (omega arith) others this in
       let within : nat_lt k (length before) ≡ true = lt_is k (length before) l in
       rw (place, within) refl
@@ -106,7 +106,7 @@ module _ (names : Names) (es before after : List Item) (split : es ≡ before ++
       let name = all_at (λ e. (n : ℕ) × (e.name ≡ Some n) × IsHeldName names n) es k at.0 there known in
       let held = name.2 in
       let entry : find (λ x. nat_eq x.number k) es ≡ Some at.0 =
-          subst (λ m. find (λ x. nat_eq x.number m) es ≡ Some at.0) (omega arith) (found 0 k es at.0 simple there) in
+      subst (λ m. find (λ x. nat_eq x.number m) es ≡ Some at.0) (omega arith) (found 0 k es at.0 simple there) in
       record {
         entry = at.0;
         name = name.0;

@@ -1,6 +1,6 @@
 -- Entries stay printable where new names are assumed.
-use Rattle.std.proofs.Common.{◌≡◌, ℕ, zero, suc, ◌+◌, ◌<◌, Bool, true, false, ◌||◌, nat_eq, nat_lt, List, [], ◌∷◌, ◌++◌, length, take, Option, Some, None, refl, sym, ap, ◌∙◌, subst, inl, inr, arith}
-use Rattle.std.specs.Prelude.{slice_get, position, ◌⊎◌}
+use Rattle.std.proofs.Common.{◌≡◌, ℕ, zero, suc, ◌+◌, ◌<◌, Bool, true, false, ◌||◌, nat_eq, nat_lt, List, [], ◌∷◌, ◌++◌, length, take, Some, None, refl, sym, ap, ◌∙◌, subst, inl, inr, arith}
+use Rattle.std.specs.Prelude.{slice_get, ◌⊎◌}
 use Rattle.std.specs.List.{list_any, position_or_len}
 use Rattle.std.proofs.lemmas.Bool.Decides.{nat_tests}
 use Rattle.std.proofs.lemmas.List.Elements.{All-nil, All-push}
@@ -15,7 +15,7 @@ use Rattle.lego_kernel.specs.declared.entry.Entry.{Entry as Item}
 use Rattle.lego_session.specs.Commands.{Answers}
 use Rattle.lego_session.specs.Printable.{NamesDiffer, HasArrows, IsPlain, IsPrintable}
 use Rattle.lego_session.specs.Reading.{ReadsType}
-use Rattle.lego_session.specs.Steps.{AreNew, assume_all, Binds, BindsAll, Step, Answer}
+use Rattle.lego_session.specs.Steps.{AreNew, assume_all, BindsAll, Step, Answer}
 use Rattle.lego_session.proofs.DenotesNames.{is_named_so}
 
 pub none_printable : IsPrintable []
@@ -52,7 +52,7 @@ eq_self n = grind (arith, nat_tests)
 absent : (es : List Item) (n : ℕ) → position_of es n ≡ None → IsAbsent es n
 absent es n none k a h is =
     let within : nat_lt (position_or_len (is_named n) es) (length es) ≡ true =
-        lt_is _ _ (passes_within (is_named n) es k a h (is_named_so n a is)) in
+    lt_is _ _ (passes_within (is_named n) es k a h (is_named_so n a is)) in
     let found : position_of es n ≡ Some (position_or_len (is_named n) es) = rw within refl in
     cc
 

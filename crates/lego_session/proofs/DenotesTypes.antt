@@ -1,7 +1,6 @@
 -- The text of a type is lexed and read as the type.
-use Rattle.std.proofs.Common.{◌≡◌, ℕ, suc, ◌<◌, Bool, true, false, ◌&&◌, List, [], ◌∷◌, ◌++◌, map, length, Some, refl, sym, ap, ap₂, ◌∙◌, subst, append_assoc}
+use Rattle.std.proofs.Common.{◌≡◌, ℕ, suc, ◌<◌, false, List, [], ◌∷◌, ◌++◌, map, length, Some, refl, sym, ap, ap₂, ◌∙◌, subst, append_assoc}
 use Rattle.std.proofs.lemmas.List.{map-append}
-use Rattle.lego_base.specs.declared.place.Place.{Place}
 use Rattle.lego_term.specs.Trees.{Core, Var, Const, Prop, Univ, Pi, Lam, App, Sigma, Pair, Fst, Snd}
 use Rattle.lego_term.specs.declared.binder.Binder.{Binder}
 use Rattle.lego_term.specs.declared.binder.Mark.TheVariants.{Plain}
@@ -11,7 +10,7 @@ use Rattle.lego_lexer.specs.declared.token.Word.TheVariants as Word
 use Rattle.lego_lexer.specs.declared.token.Symbol.TheVariants.{OpenParen, CloseParen, Arrow}
 use Rattle.lego_lexer.proofs.LexLemmas.{reads_join}
 use Rattle.lego_lexer.proofs.TokenLemmas.{Stops, name_longest, symbol_longest, arrow_longest}
-use Rattle.lego_grammar.specs.Grammar.{Names, Nested, Item as Token, Form, Term, Tail, Atom, Reads as Parse, item, symbol, word, token}
+use Rattle.lego_grammar.specs.Grammar.{Names, Nested, Item as Token, Form, Term, Atom, Reads as Parse, item, symbol, word, token}
 use Rattle.lego_grammar.specs.Written.{Written, Named, WrittenProp, Bind}
 use Rattle.lego_grammar.specs.declared.surface.Kind.TheVariants as Kind
 use Rattle.lego_kernel.specs.Simple.{IsSimple}
@@ -166,15 +165,17 @@ module _ (names : Names) (es before : List Item) (constants : (k : ℕ) → k < 
 
   pub type_read : (t : Core) → IsSimple (length before) t → HasArrows t → IsReadAs t
   type_read Prop s h = (λ d at rest stops. as_term names before d at (prop_read names before d at rest stops), λ d at rest stops. prop_read names before d at rest stops)
-  type_read (Const k) s h =
-      (λ d at rest stops. as_term names before d at (name_read names before d at es k rest (constants k s) stops),
-        λ d at rest stops. name_read names before d at es k rest (constants k s) stops)
+  type_read (Const k) s h = (
+    λ d at rest stops. as_term names before d at (name_read names before d at es k rest (constants k s) stops),
+    λ d at rest stops. name_read names before d at es k rest (constants k s) stops,
+  )
   type_read (Pi x a b) s h =
       let p = type_read a s.0 h.1 in
-      let q = type_read b s.1 h.2 in
-      (λ d at rest stops. arrow_type x a b h.0 p q d at rest stops,
+      let q = type_read b s.1 h.2 in (
+        λ d at rest stops. arrow_type x a b h.0 p q d at rest stops,
         λ d at rest stops. parens_read names before d at (type_text names es 0 (Pi x a b)) rest (Pi x a b) (quiet (Pi x a b) s).0
-        (arrow_type x a b h.0 p q (suc d) (after at (40 ∷ [])) (41 ∷ rest) (stops_at 41 rest refl)))
+            (arrow_type x a b h.0 p q (suc d) (after at (40 ∷ [])) (41 ∷ rest) (stops_at 41 rest refl)),
+      )
   type_read (Var i) s h = absurd s
   type_read (Univ l) s h = absurd s
   type_read (Lam x a m) s h = absurd s

@@ -1,20 +1,20 @@
 -- The names of entries are held: a numbering that grows keeps them, and bindings add names that were read.
-use Rattle.std.proofs.Common.{◌≡◌, ℕ, zero, suc, ◌<◌, List, [], ◌∷◌, ◌++◌, map, length, Some, refl, sym, ap, ◌∙◌, subst, append_assoc}
-use Rattle.std.specs.Prelude.{slice_get, All}
+use Rattle.std.proofs.Common.{◌≡◌, ℕ, List, [], ◌∷◌, ◌++◌, map, Some, refl, sym, ap, ◌∙◌, subst}
+use Rattle.std.specs.Prelude.{slice_get}
 use Rattle.std.specs.List.{AllByRecursion}
-use Rattle.std.proofs.lemmas.List.Elements.{All-weaker, All-push, All-contains}
+use Rattle.std.proofs.lemmas.List.Elements.{All-weaker, All-push}
 use Rattle.lego_base.specs.declared.place.Place.{Place}
 use Rattle.lego_term.specs.Trees.{Core}
 use Rattle.lego_term.specs.declared.binder.Mark.TheVariants.{Plain}
 use Rattle.lego_lexer.specs.Commands.{CommandText}
-use Rattle.lego_lexer.specs.Tokens.{Name, Placed, Tokens, token_of}
+use Rattle.lego_lexer.specs.Tokens.{Placed, Tokens}
 use Rattle.lego_grammar.specs.Grammar.{Names, Nested, Item as Token, item, Parses, NameList, ReadsBinding, ReadsBindings, ReadsAct, ReadsCommand, TermWord, NumberWord, NameWord, LoneWord}
 use Rattle.lego_grammar.specs.Written.{Bound, Deed, NameAt, Order}
 use Rattle.lego_kernel.specs.Entries.{assumption}
 use Rattle.lego_kernel.specs.declared.entry.Entry.{Entry as Item}
 use Rattle.lego_session.specs.Commands.{grammar_tokens, Answers}
 use Rattle.lego_session.specs.Names.{IsHeldName, Grows, AreKnown}
-use Rattle.lego_session.specs.Steps.{assume_all, Binds, BindsAll, Step, Answer}
+use Rattle.lego_session.specs.Steps.{assume_all, BindsAll, Step, Answer}
 use Rattle.lego_session.proofs.DenotesNames.{front_at}
 use Rattle.lego_session.proofs.TokenLemmas.{IsTrueName, AreTrueNames, tokens_are_names}
 

@@ -1,15 +1,14 @@
 -- What the tokens of bytes are, and that they stand apart.
-use Rattle.std.proofs.Common.{◌≡◌, ◌≢◌, ℕ, zero, suc, ◌+◌, ◌≤◌, Bool, true, false, nat_eq, if◌then◌else◌, List, [], ◌∷◌, ◌++◌, length, Option, Some, None, option_map, refl, sym, ap, ◌∙◌, subst, arith}
+use Rattle.std.proofs.Common.{◌≡◌, ℕ, zero, suc, ◌+◌, ◌≤◌, Bool, true, false, nat_eq, if◌then◌else◌, List, [], ◌∷◌, ◌++◌, length, Option, Some, None, option_map, refl, sym, ap, ◌∙◌, subst, arith}
 use Rattle.std.specs.Prelude.{slice_get}
 use Rattle.std.specs.List.{AllByRecursion}
-use Rattle.std.proofs.lemmas.Bool.Decides.{nat_tests}
 use Rattle.std.proofs.lemmas.Option.{same_Some}
 use Rattle.lego_base.specs.Place.{behind}
 use Rattle.lego_base.specs.declared.place.Place.{Place}
 use Rattle.lego_base.proofs.PlaceLemmas.{behind-append}
 use Rattle.lego_lexer.specs.declared.token.Word.{Word}
 use Rattle.lego_lexer.specs.declared.token.Symbol.{Symbol}
-use Rattle.lego_lexer.specs.Tokens.{Lexeme, Name, Number, OfWord, OfSymbol, word_text, words, symbol_text, symbols, written_as, has_name_form, has_number_form, number_value, or_else, token_of, IsLongest, Point, Placed, Reads, Tokens}
+use Rattle.lego_lexer.specs.Tokens.{Lexeme, Name, Number, OfWord, OfSymbol, word_text, words, symbol_text, symbols, written_as, has_name_form, has_number_form, number_value, or_else, token_of, Point, Placed, Reads, Tokens}
 
 -- the parts that make a token, as they are tried in order
 abbrev first_of_forms : Option Word → Option Symbol → Bool → Bool → List ℕ → ℕ → Option Lexeme
@@ -103,9 +102,10 @@ stands_behind : {at end : Point} {bytes rest : List ℕ} {tokens : List Placed} 
 stands_behind Reads.none i t h = absurd (cc)
 stands_behind (Reads.token {gap = gap} g b l r) zero t h = (gap, ap (λ (x : Placed). x.place) (sym (same_Some _ _ h)))
 stands_behind (Reads.token {at = at} {gap = gap} {text = text} g b l r) (suc i) t h =
-    let more = stands_behind r i t h in
-    (gap ++ (text ++ more.0),
-      more.1 ∙ sym (behind-append at.place gap (text ++ more.0) ∙ behind-append (behind at.place gap) text more.0))
+    let more = stands_behind r i t h in (
+      gap ++ (text ++ more.0),
+      more.1 ∙ sym (behind-append at.place gap (text ++ more.0) ∙ behind-append (behind at.place gap) text more.0),
+    )
 
 -- a later token stands elsewhere than the first
 elsewhere : (p : Place) (text more : List ℕ) (lexeme : Lexeme) → token_of text ≡ Some lexeme → behind (behind p text) more ≡ p → ⊥
