@@ -3,3 +3,10 @@ pub mod CutLemmas
 pub mod DenotesLemmas
 pub mod OutcomeLemmas
 pub mod RunLemmas
+pub mod TokenLemmas
+pub mod KnownLemmas
+pub mod DenotesTexts
+pub mod DenotesNames
+pub mod DenotesTypes
+pub mod DenotesEntries
+pub mod DenotesPrintable

@@ -10,3 +10,4 @@ pub mod Headline
 pub mod Statuses
 pub mod Outcomes
 pub mod Progress
+pub mod Printable
