@@ -4,11 +4,12 @@ use Rattle.std.specs.Prelude.{◌⊎◌}
 use Rattle.std.proofs.Math.Seq.{take-append_seam, take-append-add}
 use Rattle.std.proofs.lemmas.Bool.{ltb-true, ltb-false, false≢true}
 use Rattle.std.proofs.lemmas.List.{take_all}
+use Rattle.std.proofs.lemmas.Option.{slice_get_within}
 use Rattle.std.specs.Io.KnownBytes.{Appends, Consumes, IsAtEnd}
 use Rattle.std.proofs.KnownBytes.{Appends-trans}
 use Rattle.lego_base.specs.Bytes.{AppendsFront}
 use Rattle.lego_base.specs.Causes.{Rose}
-use Rattle.lego_lexer.specs.Commands.{Ending}
+use Rattle.lego_lexer.specs.Commands.{CommandText, Ending}
 use Rattle.lego_grammar.specs.Grammar.{Names}
 use Rattle.lego_kernel.specs.Contexts.{IsContext}
 use Rattle.lego_kernel.specs.declared.entry.Entry.{Entry as Item}
@@ -17,10 +18,13 @@ use Rattle.lego_session.specs.Headline.{Headline}
 use Rattle.lego_session.specs.Names.{AreKnown}
 use Rattle.lego_session.specs.Outcomes.{Ended, AnswersAll, AnswersFront, Broken, Overlong, Stopped, Outcome, IsAcceptable}
 use Rattle.lego_session.specs.Progress.{AreAnswered, Halted, Finished}
-use Rattle.lego_session.specs.Runs.{Run, answers_text, closing_text, output_of, refuses, is_ending_refused}
+use Rattle.lego_session.specs.Printable.{IsPrintable}
+use Rattle.lego_session.specs.Runs.{Run, Runs, first_place, answers_text, closing_text, output_of, refuses, is_ending_refused}
+use Rattle.lego_session.specs.Steps.{Answer}
 use Rattle.lego_session.specs.declared.status.Status.{Status}
 use Rattle.lego_session.specs.declared.status.Status.TheVariants.{Accepted, Refused, Usage, ReadFault, WriteFault, Memory, OpenProof, TooLong}
 use Rattle.lego_session.proofs.DenotesLemmas.{development_denotes}
+use Rattle.lego_session.proofs.DenotesPrintable.{answered_printable}
 
 -- the slice up to a length or a limit is the front up to that limit
 pub up_to : (n limit : ℕ) (slice items : List ℕ) → slice ≡ items → n ≡ min (length slice) limit → take n slice ≡ take limit items
@@ -38,8 +42,24 @@ abbrev run_of : {bytes : List ℕ} {names : Names} {es : List Item} {refused : B
 run_of {names = names} {es = es} {ending = ending} h =
     record { commands = h.commands; ending = ending; names = names; answers = h.answers; entries = es; cut = h.cut; runs = h.runs }
 
-pub headline : (names : Names) (es : List Item) → AreKnown names es → IsContext es → Headline names es
-headline names es known valid = record { denotes = development_denotes names es known valid; pure = λ v. holds_purely v es valid }
+-- the entries that a run leaves are printable
+runs_printable : {held names : Names} {old new : List Item} {cs : List CommandText} {answers : List Answer}
+    → Runs held old cs answers names new → IsPrintable old → IsPrintable new
+runs_printable Runs.none p = p
+runs_printable (Runs.more h rest) p = runs_printable rest (answered_printable h p)
+
+none_printable : IsPrintable []
+none_printable = record {
+  apart = λ i j a b h k e. absurd (omega (arith, slice_get_within [] i a h));
+  plain = λ k d h. absurd (omega (arith, h));
+}
+
+headline : (names : Names) (es : List Item) {cs : List CommandText} {answers : List Answer}
+    → Runs [] [] cs answers names es → AreKnown names es → IsContext es → Headline names es
+headline names es runs known valid = record {
+  denotes = development_denotes names es first_place known valid (runs_printable runs none_printable);
+  pure = λ v. holds_purely v es valid;
+}
 
 -- a fault within an answer, or no memory for one
 pub halted : (bytes read : List ℕ) (l l' t t1 : Option (List ℕ)) (before now : ℕ) (status : Status)
@@ -95,7 +115,7 @@ module _ (bytes read : List ℕ) (l l' t t1 : Option (List ℕ)) (names : Names)
             run = run_of h;
             refusal = ap (λ b. b || is_ending_refused ending) h.refusal ∙ is;
             written = Appends-trans t t1 t2 _ _ h.written w;
-            headline = headline names es known valid;
+            headline = headline names es h.runs known valid;
           }
 
       in_output : AppendsFront t1 t2 (closing_text names es ending) → Stopped l l' t t2
