@@ -3,3 +3,14 @@ pub mod TextLemmas
 pub mod BindingLemmas
 pub mod BindAllLemmas
 pub mod StepLemmas
+pub mod CutLemmas
+pub mod DenotesLemmas
+pub mod OutcomeLemmas
+pub mod RunLemmas
+pub mod TokenLemmas
+pub mod KnownLemmas
+pub mod DenotesTexts
+pub mod DenotesNames
+pub mod DenotesTypes
+pub mod DenotesEntries
+pub mod DenotesPrintable
