@@ -1,9 +1,10 @@
 pub mod ReadingLemmas
 pub mod TokenLemmas
 pub mod KnownLemmas
+pub mod DenotesPrintable
 pub mod DenotesTexts
 pub mod DenotesNames
 pub mod DenotesTypes
 pub mod DenotesEntries
 pub mod DenotesLemmas
-pub mod DenotesPrintable
+pub mod PrintableLemmas

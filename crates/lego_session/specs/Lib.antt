@@ -5,4 +5,3 @@ pub mod Refusals
 pub mod Steps
 pub mod Commands
 pub mod Denotes
-pub mod Printable
