@@ -1,4 +1,7 @@
 pub mod ReadingLemmas
+pub mod TextLemmas
+pub mod BindingLemmas
+pub mod BindAllLemmas
 pub mod TokenLemmas
 pub mod KnownLemmas
 pub mod DenotesPrintable

@@ -2,6 +2,7 @@
 #![tactic(auto)]
 
 mod answer;
+mod binding;
 mod reading;
 mod refusal;
 mod refusal_text;
@@ -9,4 +10,4 @@ mod session;
 mod text;
 
 pub use refusal::{Cause, Refusal};
-pub use session::Session;
+pub use session::{Answer, Session};
