@@ -9,4 +9,7 @@ pub mod Form
 pub mod TermFalls
 pub mod Made
 pub mod Node
+pub mod BodyMap
+pub mod Agreement
+pub mod Listed
 pub mod formers

@@ -3,9 +3,9 @@
 #![tactic(auto)]
 
 mod binder;
-
-
-
+mod bodies;
+mod constants;
+mod equality;
 mod fault;
 mod level;
 mod lifting;
@@ -16,9 +16,9 @@ mod substitution;
 mod term;
 
 pub use binder::{Binder, Mark};
-
-
-
+pub use bodies::Bodies;
+pub use constants::{close_over, mentions, replace_consts};
+pub use equality::{equal, equal_but_levels, identical};
 pub use fault::TermFault;
 pub use level::Level;
 pub use lifting::lift;

@@ -68,7 +68,8 @@ impl Model for Term {
 impl Term {
     /// The same tree, shared.
     pub fn share(&self) -> Result<Term, AllocError>
-        ensures { IfOk result (λ t. t ≡ self.now) }
+        ensures same { IfOk result (λ t. t ≡ self.now) }
+        ensures limits { Fits self.now }
     {
         let form = self.form.clone()?;
         Ok(Term {

@@ -6,7 +6,7 @@ use Rattle.lego_term.proofs.lifting.+lift_within.Goals as goal
 pub returns-then-loose-from-clause-ok : goal.returns-then-loose-from-clause-ok
 returns-then-loose-from-clause-ok t c =
     let low : loose c.args.t.now ≤ c.args.from = omega arith in
-    c.in_ok-share.ensures ∙ sym (lift-low c.args.from c.args.by c.args.t.now low)
+    c.in_ok-share.ensures.same ∙ sym (lift-low c.args.from c.args.by c.args.t.now low)
 
 pub returns-in_ok-body-in-Pi-clause-err : goal.returns-in_ok-body-in-Pi-clause-err
 returns-in_ok-body-in-Pi-clause-err t c =

@@ -9,7 +9,7 @@ pub returns-then-loose-at : goal.returns-then-loose-at
 returns-then-loose-at t c =
     let low : loose c.args.t.now ≤ c.args.at = omega arith in
     let same = put-low c.args.at c.args.value.now c.args.t.now low in
-    (c.in_ok-share.ensures ∙ sym same, ap first_over same ∙ first_over-fits c.args.t.now c.loose.ensures.limits.0 c.loose.ensures.limits.1)
+    (c.in_ok-share.ensures.same ∙ sym same, ap first_over same ∙ first_over-fits c.args.t.now c.loose.ensures.limits.0 c.loose.ensures.limits.1)
 
 pub returns-then-index-at : goal.returns-then-index-at
 returns-then-index-at t c =
