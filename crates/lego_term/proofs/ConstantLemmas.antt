@@ -1,1 +1,1 @@
--- 
+-- What putting variables for constants leaves.

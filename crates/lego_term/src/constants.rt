@@ -5,6 +5,7 @@ ghost use Rattle.lego_term.specs.Trees.{depth, loose, mentions as is_mentioned, 
 ghost use Rattle.lego_term.specs.Made.{Rebuilds};
 ghost use Rattle.lego_term.specs.BodyMap.{bodies_in};
 ghost use Rattle.lego_term.specs.Listed.{HasVariables};
+ghost use Rattle.lego_term.specs.declared.fault.TermFault.TheVariants.{Memory};
 
 use crate::bodies::Bodies;
 use crate::fault::TermFault;
@@ -20,17 +21,18 @@ pub fn mentions(t: &Term, number: u32) -> bool
     match t.view() {
         Node::Var(_) | Node::Prop | Node::Univ(_) => false,
         Node::Const(k) => number == k,
-        Node::Pi(_, a, b) | Node::Lam(_, a, b) | Node::Sigma(_, a, b) => {
-            mentions(a, number) || mentions(b, number)
-        }
+        Node::Pi(_, a, b) => mentions(a, number) || mentions(b, number),
+        Node::Lam(_, a, m) => mentions(a, number) || mentions(m, number),
         Node::App(_, m, n) => mentions(m, number) || mentions(n, number),
+        Node::Sigma(_, a, b) => mentions(a, number) || mentions(b, number),
         Node::Pair(_, a, b, m, n) => {
             mentions(a, number)
                 || mentions(b, number)
                 || mentions(m, number)
                 || mentions(n, number)
         }
-        Node::Fst(m) | Node::Snd(m) => mentions(m, number),
+        Node::Fst(m) => mentions(m, number),
+        Node::Snd(m) => mentions(m, number),
     }
 }
 

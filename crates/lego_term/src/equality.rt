@@ -11,21 +11,30 @@ use crate::term::{Node, Term};
 pub fn equal(a: &Term, b: &Term) -> bool
     ensures { IsTrue result ↔ Equal a.now b.now }
 {
-    a.size() == b.size() && agree(a, b, false, true)
+    if a.size() != b.size() {
+        return false;
+    }
+    agree(a, b, false, true)
 }
 
 /// Whether two terms are equal, names and marks too.
 pub fn identical(a: &Term, b: &Term) -> bool
     ensures { IsTrue result ↔ a.now ≡ b.now }
 {
-    a.size() == b.size() && agree(a, b, true, true)
+    if a.size() != b.size() {
+        return false;
+    }
+    agree(a, b, true, true)
 }
 
 /// Whether two terms are equal, names, marks and levels aside.
 pub fn equal_but_levels(a: &Term, b: &Term) -> bool
     ensures { IsTrue result ↔ EqualButLevels a.now b.now }
 {
-    a.size() == b.size() && agree(a, b, false, false)
+    if a.size() != b.size() {
+        return false;
+    }
+    agree(a, b, false, false)
 }
 
 /// Whether two terms agree node by node, where `names` asks for the same names and marks
