@@ -104,9 +104,9 @@ fn variables_of(alloc: Global, numbers: &[u32]) -> Result<BTreeMap<u32, u32>, Al
     let mut variables = BTreeMap::new(alloc);
     for index in 0..numbers.len() {
         let number = numbers[numbers.len() - 1 - index];
-        if variables.insert(number, index as u32).is_err() {
+        let Ok(_) = variables.insert(number, index as u32) else {
             return Err(AllocError);
-        }
+        };
     }
     Ok(variables)
 }
