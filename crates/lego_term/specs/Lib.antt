@@ -5,6 +5,7 @@ pub mod Below
 pub mod Sequences
 pub mod Parts
 pub mod TreeCode
+pub mod ConstantBound
 pub mod Form
 pub mod TermFalls
 pub mod Made

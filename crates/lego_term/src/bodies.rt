@@ -3,6 +3,7 @@ ghost use Rattle.std.specs.Prelude.{◌≡◌, OnOk, OnErr};
 ghost use Rattle.std.specs.Option.{option_copied};
 ghost use Rattle.std.specs.Ordering.{nat_cmp};
 ghost use Rattle.std.specs.FinMap as map;
+ghost use Rattle.lego_term.specs.ConstantBound.{NoneBelow};
 
 use crate::term::Term;
 use std::alloc::{AllocError, Global};
@@ -13,6 +14,8 @@ use std::marker::Model;
 #[derive(Drop)]
 pub struct Bodies {
     terms: BTreeMap<u32, Term>,
+    // no constant below it has a body
+    least: u64,
 }
 
 impl Model for Bodies {
@@ -27,6 +30,11 @@ impl Model for Bodies {
     ghost coded = { map.code coded_ℕ tree_code };
 
     ghost view = { λ b. map.from_entries b.terms.entries };
+
+    ghost use Rattle.std.specs.BTreeMap.{get};
+    ghost use Rattle.lego_term.specs.ConstantBound.{NoneBelow};
+
+    ghost invariant = { λ b. NoneBelow b.least (get nat_cmp b.terms) };
 }
 
 impl Bodies {
@@ -36,6 +44,7 @@ impl Bodies {
     {
         Bodies {
             terms: BTreeMap::new(alloc),
+            least: u64::MAX,
         }
     }
 
@@ -46,7 +55,10 @@ impl Bodies {
     {
         let body = body.share()?;
         match self.terms.insert(number, body) {
-            Ok(_) => Ok(()),
+            Ok(_) => {
+                self.least = self.least.min(u64::from(number));
+                Ok(())
+            }
             Err(_) => Err(AllocError),
         }
     }
@@ -57,6 +69,13 @@ impl Bodies {
         ensures rest { self.new ≡ map.remove self.old number }
     {
         self.terms.remove(&number)
+    }
+
+    /// A number below which no constant has a body.
+    pub(crate) fn least(&self) -> u64
+        ensures { NoneBelow result (map.get self.now) }
+    {
+        self.least
     }
 
     /// The constant's body, where it has one.

@@ -1,10 +1,11 @@
 //! Constants in terms: whether one is mentioned, bodies put for them, and variables put
 //! for them.
 ghost use Rattle.std.specs.Prelude.{◌≡◌, ◌+◌, ◌^◌, ◌<◌, ◌≤◌, length, IfOk, IfErr};
-ghost use Rattle.lego_term.specs.Trees.{depth, loose, mentions as is_mentioned, replace_constants, close_over as closed_over};
+ghost use Rattle.lego_term.specs.Trees.{depth, loose, mentions as is_mentioned, replace_constants, close_over as closed_over, listed_variable};
 ghost use Rattle.lego_term.specs.Made.{Rebuilds};
 ghost use Rattle.lego_term.specs.BodyMap.{bodies_in};
 ghost use Rattle.lego_term.specs.Listed.{HasVariables};
+ghost use Rattle.lego_term.specs.ConstantBound.{NoneBelow};
 ghost use Rattle.lego_term.specs.declared.fault.TermFault.TheVariants.{Memory};
 
 use crate::bodies::Bodies;
@@ -18,6 +19,9 @@ use std::collections::BTreeMap;
 pub fn mentions(t: &Term, number: u32) -> bool
     ensures { result ≡ is_mentioned number t.now }
 {
+    if u64::from(number) >= t.constants() {
+        return false;
+    }
     match t.view() {
         Node::Var(_) | Node::Prop | Node::Univ(_) => false,
         Node::Const(k) => number == k,
@@ -40,6 +44,9 @@ pub fn mentions(t: &Term, number: u32) -> bool
 pub fn replace_consts(alloc: Global, t: &Term, bodies: &Bodies) -> Result<Term, TermFault>
     ensures { Rebuilds (replace_constants (bodies_in bodies.now) t.now) result }
 {
+    if t.constants() <= bodies.least() {
+        return Ok(t.share()?);
+    }
     match t.view() {
         Node::Var(_) | Node::Prop | Node::Univ(_) => Ok(t.share()?),
         Node::Const(number) => match bodies.get(number) {
@@ -93,7 +100,18 @@ pub fn close_over(alloc: Global, t: &Term, numbers: &[u32]) -> Result<Term, Term
 {
     let _depth = t.depth();
     let variables = variables_of(alloc, numbers)?;
-    close_within(alloc, t, numbers, &variables, 0)
+    close_within(alloc, t, numbers, &variables, least_of(numbers), 0)
+}
+
+/// A number below which no constant is listed.
+fn least_of(numbers: &[u32]) -> u64
+    ensures { NoneBelow result (listed_variable numbers.now) }
+{
+    let mut least = u64::MAX;
+    for number in numbers {
+        least = least.min(u64::from(*number));
+    }
+    least
 }
 
 /// The variables of the listed constants, where the last is variable 0.
@@ -117,14 +135,19 @@ fn close_within(
     t: &Term,
     numbers: &[u32],
     variables: &BTreeMap<u32, u32>,
+    least: u64,
     under: u32,
 ) -> Result<Term, TermFault>
     requires room { loose t.now + depth t.now + length numbers.now < 2 ^ 31 }
     requires binders { under + depth t.now + length numbers.now < 2 ^ 31 }
     requires listed { HasVariables numbers.now variables.now }
+    requires none { NoneBelow least (listed_variable numbers.now) }
     ensures ok { IfOk result (λ u. u ≡ closed_over numbers.now under t.now) }
     ensures err { IfErr result (λ fault. fault ≡ Memory) }
 {
+    if t.loose() <= under && t.constants() <= least {
+        return Ok(t.share()?);
+    }
     match t.view() {
         Node::Prop | Node::Univ(_) => Ok(t.share()?),
         Node::Var(index) => {
@@ -139,38 +162,38 @@ fn close_within(
             None => Ok(t.share()?),
         },
         Node::Pi(binder, domain, body) => {
-            let domain = close_within(alloc, domain, numbers, variables, under)?;
-            let body = close_within(alloc, body, numbers, variables, under + 1)?;
+            let domain = close_within(alloc, domain, numbers, variables, least, under)?;
+            let body = close_within(alloc, body, numbers, variables, least, under + 1)?;
             pi(alloc, binder, &domain, &body)
         }
         Node::Lam(binder, domain, body) => {
-            let domain = close_within(alloc, domain, numbers, variables, under)?;
-            let body = close_within(alloc, body, numbers, variables, under + 1)?;
+            let domain = close_within(alloc, domain, numbers, variables, least, under)?;
+            let body = close_within(alloc, body, numbers, variables, least, under + 1)?;
             lam(alloc, binder, &domain, &body)
         }
         Node::App(mark, function, argument) => {
-            let function = close_within(alloc, function, numbers, variables, under)?;
-            let argument = close_within(alloc, argument, numbers, variables, under)?;
+            let function = close_within(alloc, function, numbers, variables, least, under)?;
+            let argument = close_within(alloc, argument, numbers, variables, least, under)?;
             app(alloc, mark, &function, &argument)
         }
         Node::Sigma(binder, first, second) => {
-            let first = close_within(alloc, first, numbers, variables, under)?;
-            let second = close_within(alloc, second, numbers, variables, under + 1)?;
+            let first = close_within(alloc, first, numbers, variables, least, under)?;
+            let second = close_within(alloc, second, numbers, variables, least, under + 1)?;
             sigma(alloc, binder, &first, &second)
         }
         Node::Pair(binder, a, b, m, n) => {
-            let a = close_within(alloc, a, numbers, variables, under)?;
-            let b = close_within(alloc, b, numbers, variables, under + 1)?;
-            let m = close_within(alloc, m, numbers, variables, under)?;
-            let n = close_within(alloc, n, numbers, variables, under)?;
+            let a = close_within(alloc, a, numbers, variables, least, under)?;
+            let b = close_within(alloc, b, numbers, variables, least, under + 1)?;
+            let m = close_within(alloc, m, numbers, variables, least, under)?;
+            let n = close_within(alloc, n, numbers, variables, least, under)?;
             pair(alloc, binder, &a, &b, &m, &n)
         }
         Node::Fst(of) => {
-            let of = close_within(alloc, of, numbers, variables, under)?;
+            let of = close_within(alloc, of, numbers, variables, least, under)?;
             fst(alloc, &of)
         }
         Node::Snd(of) => {
-            let of = close_within(alloc, of, numbers, variables, under)?;
+            let of = close_within(alloc, of, numbers, variables, least, under)?;
             snd(alloc, &of)
         }
     }

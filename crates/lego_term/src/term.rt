@@ -2,6 +2,7 @@
 ghost use Rattle.std.specs.Prelude.{◌≡◌, ◌≤◌, IfOk};
 ghost use Rattle.lego_term.specs.Trees.{size, depth, loose};
 ghost use Rattle.lego_term.specs.Made.{Makes, Fits};
+ghost use Rattle.lego_term.specs.ConstantBound.{constant_bound};
 ghost use Rattle.lego_term.specs.Form.{tree_of, HasNumbers};
 ghost use Rattle.lego_term.specs.Node.{shown};
 
@@ -25,6 +26,7 @@ pub struct Term {
     size: u64,
     depth: u32,
     loose: u32,
+    constants: u64,
     form: Rc<Form>,
 }
 
@@ -56,7 +58,7 @@ impl Model for Term {
 
     ghost view = { λ t. tree_of t.form.value };
 
-    ghost invariant = { λ t. HasNumbers (tree_of t.form.value) t.size t.depth t.loose };
+    ghost invariant = { λ t. HasNumbers (tree_of t.form.value) t.size t.depth t.loose t.constants };
 
     ghost size = { nodes_of };
 
@@ -76,6 +78,7 @@ impl Term {
             size: self.size,
             depth: self.depth,
             loose: self.loose,
+            constants: self.constants,
             form,
         })
     }
@@ -104,6 +107,13 @@ impl Term {
         self.loose
     }
 
+    /// One more than the greatest constant, or 0.
+    pub(crate) fn constants(&self) -> u64
+        ensures { result ≡ constant_bound self.now }
+    {
+        self.constants
+    }
+
     /// The root, with the parts below it.
     pub fn view(&self) -> Node<'_>
         ensures root { shown result ≡ self.now }
@@ -125,8 +135,15 @@ impl Term {
     }
 
     /// A term of this form, whose numbers are given.
-    pub(crate) fn of(alloc: Global, form: Form, size: u64, depth: u32, loose: u32) -> Result<Term, TermFault>
-        requires { HasNumbers (tree_of form) size depth loose }
+    pub(crate) fn of(
+        alloc: Global,
+        form: Form,
+        size: u64,
+        depth: u32,
+        loose: u32,
+        constants: u64,
+    ) -> Result<Term, TermFault>
+        requires { HasNumbers (tree_of form) size depth loose constants }
         ensures { Makes (tree_of form) result }
     {
         match Rc::new(alloc, form) {
@@ -134,6 +151,7 @@ impl Term {
                 size,
                 depth,
                 loose,
+                constants,
                 form,
             }),
             Err(_) => Err(TermFault::Memory),
