@@ -1,5 +1,5 @@
 -- A tree whose loose variables are all below the place stays as it is; at the place stands the value.
-use Rattle.std.proofs.Common.{◌≡◌, ℕ, suc, ◌+◌, ◌≤◌, nat_lt, nat_eq, true, false, refl, ap, sym, ◌∙◌, arith, IfOk, IfErr, Result, Ok, Err}
+use Rattle.std.proofs.Common.{◌≡◌, ℕ, suc, ◌≤◌, nat_lt, nat_eq, true, false, refl, ap, sym, ◌∙◌, arith, IfOk, IfErr, Result, Ok, Err}
 use Rattle.std.proofs.lemmas.Bool.Decides.{nat_tests}
 use Rattle.lego_term.specs.Trees.{Core, Var, Const, Prop, Univ, Pi, Lam, App, Sigma, Pair, Fst, Snd, size, depth, loose, lift, put}
 use Rattle.lego_term.specs.Made.{Fits, first_over, Rebuilds}

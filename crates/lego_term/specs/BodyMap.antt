@@ -1,5 +1,5 @@
 -- What is kept of constants' bodies: a finite map from the constants' numbers.
-use Rattle.std.specs.Prelude.{◌≡◌, ℕ, Option, Some}
+use Rattle.std.specs.Prelude.{◌≡◌, ℕ, Some}
 use Rattle.std.specs.Ordering.{nat_cmp}
 use Rattle.std.specs.FinMap as map
 use Rattle.lego_term.specs.Trees.{Core, Bodies, loose}

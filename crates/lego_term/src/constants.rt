@@ -30,10 +30,7 @@ pub fn mentions(t: &Term, number: u32) -> bool
         Node::App(_, m, n) => mentions(m, number) || mentions(n, number),
         Node::Sigma(_, a, b) => mentions(a, number) || mentions(b, number),
         Node::Pair(_, a, b, m, n) => {
-            mentions(a, number)
-                || mentions(b, number)
-                || mentions(m, number)
-                || mentions(n, number)
+            mentions(a, number) || mentions(b, number) || mentions(m, number) || mentions(n, number)
         }
         Node::Fst(m) => mentions(m, number),
         Node::Snd(m) => mentions(m, number),

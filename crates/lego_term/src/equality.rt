@@ -48,16 +48,22 @@ fn agree(a: &Term, b: &Term, names: bool, levels: bool) -> bool
         (Node::Prop, Node::Prop) => true,
         (Node::Univ(l), Node::Univ(m)) => !levels || same_level(l, m),
         (Node::Pi(x, a, b), Node::Pi(y, c, d)) => {
-            (!names || same_binder(x, y)) && agree(a, c, names, levels) && agree(b, d, names, levels)
+            (!names || same_binder(x, y))
+                && agree(a, c, names, levels)
+                && agree(b, d, names, levels)
         }
         (Node::Lam(x, a, b), Node::Lam(y, c, d)) => {
-            (!names || same_binder(x, y)) && agree(a, c, names, levels) && agree(b, d, names, levels)
+            (!names || same_binder(x, y))
+                && agree(a, c, names, levels)
+                && agree(b, d, names, levels)
         }
         (Node::App(k, a, b), Node::App(n, c, d)) => {
             (!names || same_mark(k, n)) && agree(a, c, names, levels) && agree(b, d, names, levels)
         }
         (Node::Sigma(x, a, b), Node::Sigma(y, c, d)) => {
-            (!names || same_binder(x, y)) && agree(a, c, names, levels) && agree(b, d, names, levels)
+            (!names || same_binder(x, y))
+                && agree(a, c, names, levels)
+                && agree(b, d, names, levels)
         }
         (Node::Pair(x, a, b, m, n), Node::Pair(y, c, d, p, q)) => {
             (!names || same_binder(x, y))

@@ -14,6 +14,8 @@ mod makers;
 mod seen;
 mod substitution;
 mod term;
+#[cfg(test)]
+mod tests;
 
 pub use binder::{Binder, Mark};
 pub use bodies::Bodies;

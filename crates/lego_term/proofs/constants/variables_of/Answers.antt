@@ -1,4 +1,3 @@
-use Rattle.std.proofs.Common.{arith}
 use Rattle.lego_term.proofs.ConstantLemmas.{no_variables, listed_more, all_variables}
 use Rattle.lego_term.proofs.constants.variables_of.Goals as goal
 

@@ -1,6 +1,5 @@
-use Rattle.std.proofs.Common.{false, ap, sym, ◌∙◌, arith}
+use Rattle.std.proofs.Common.{arith}
 use Rattle.std.proofs.lemmas.Bool.{false≢true}
-use Rattle.lego_term.specs.Trees.{size}
 use Rattle.lego_term.proofs.AgreementLemmas.{but_levels_decides, EqualButLevels-size}
 use Rattle.lego_term.proofs.equality.equal_but_levels.Goals as goal
 

@@ -1,4 +1,4 @@
-use Rattle.std.proofs.Common.{false, ap, sym, ◌∙◌, arith}
+use Rattle.std.proofs.Common.{ap, arith}
 use Rattle.std.proofs.lemmas.Bool.{false≢true}
 use Rattle.lego_term.specs.Trees.{size}
 use Rattle.lego_term.proofs.AgreementLemmas.{identical_decides}
