@@ -1,0 +1,5 @@
+pub mod FrameLemmas
+pub mod LargeLemmas
+pub mod SequenceLemmas
+pub mod StepLemmas
+pub mod MachineLemmas

@@ -1,0 +1,10 @@
+//! Head forms and normal forms of terms, with the lengths of their sequences of steps
+//! (Luo 1994, chapter 2).
+#![tactic(auto)]
+
+mod fault;
+mod frames;
+mod head_form;
+
+pub use fault::ReduceFault;
+pub use head_form::{Reduced, head};
