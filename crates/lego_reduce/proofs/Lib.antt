@@ -1,5 +1,6 @@
 pub mod FrameLemmas
+pub mod HeadLemmas
 pub mod LargeLemmas
+pub mod MachineLemmas
 pub mod SequenceLemmas
 pub mod StepLemmas
-pub mod MachineLemmas

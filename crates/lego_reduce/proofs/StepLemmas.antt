@@ -24,13 +24,15 @@ loose_app _ n v e = absurd (cc)
 
 loose_fst : (m v : Core) → contract_fst m ≡ Some v → loose v ≤ loose m
 loose_fst (Pair x a b m n) v e =
-    let bound : loose v ≡ loose m = ap loose (cc) in
+    let same : m ≡ v = cc in
+    let bound : loose v ≡ loose m = ap loose (sym same) in
     omega arith
 loose_fst _ v e = absurd (cc)
 
 loose_snd : (m v : Core) → contract_snd m ≡ Some v → loose v ≤ loose m
 loose_snd (Pair x a b m n) v e =
-    let bound : loose v ≡ loose n = ap loose (cc) in
+    let same : n ≡ v = cc in
+    let bound : loose v ≡ loose n = ap loose (sym same) in
     omega arith
 loose_snd _ v e = absurd (cc)
 

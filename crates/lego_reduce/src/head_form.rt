@@ -52,7 +52,7 @@ pub(crate) fn head_within(
     let mut frames: Frames = SmallVec::new(alloc);
     let mut inner = unwound(t, &mut frames)?;
     let mut steps = 0;
-    loop {
+    'machine: loop {
         match next_turn(alloc, bodies, inner, &mut frames, steps < limit)? {
             Turn::Stepped(made) => {
                 steps += 1;
