@@ -4,7 +4,7 @@ use Rattle.std.specs.Prelude.{option_and_then}
 use Rattle.lego_term.specs.Sequences.{after, Ends, MoreThan}
 
 module _ {T : Type 0} (next : T → Option T) where
-  after-step : (n : ℕ) (t x : T) → next t ≡ Some x → after next (suc n) t ≡ after next n x
+  pub after-step : (n : ℕ) (t x : T) → next t ≡ Some x → after next (suc n) t ≡ after next n x
   after-step n t x e = ap (option_and_then (after next n)) e
 
   pub after-more : (n : ℕ) (t u v : T) → after next n t ≡ Some u → next u ≡ Some v → after next (suc n) t ≡ Some v

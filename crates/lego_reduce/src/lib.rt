@@ -5,6 +5,8 @@
 mod fault;
 mod frames;
 mod head_form;
+mod normal_form;
 
 pub use fault::ReduceFault;
 pub use head_form::{Reduced, head};
+pub use normal_form::normal;
