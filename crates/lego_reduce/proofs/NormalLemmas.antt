@@ -14,7 +14,7 @@ use Rattle.lego_reduce.specs.declared.normal_form.Projection.TheVariants as proj
 use Rattle.lego_reduce.specs.declared.fault.ReduceFault.{ReduceFault}
 use Rattle.lego_reduce.specs.declared.fault.ReduceFault.TheVariants.{Budget, TooLarge, Memory}
 use Rattle.lego_reduce.specs.Reduction.{Reduces}
-use Rattle.lego_reduce.specs.Nesting.{bound, projected, Arrives, Goes}
+use Rattle.lego_reduce.specs.Nesting.{bound, projected, Stands, Arrives, Goes}
 use Rattle.lego_reduce.proofs.SequenceLemmas.{after-step, after-plus}
 use Rattle.lego_reduce.proofs.StepLemmas.{from_or_else, from_map}
 use Rattle.lego_reduce.proofs.ContextLemmas.{Around, Passes}
@@ -358,3 +358,10 @@ module _ (bodies : Bodies Binder Mark Level) where
   chain t u v limit nest i k deep there le h =
       let within : k ≤ limit - i = h.1 in
       (after-plus (normal_step bodies) i k t u (after_head bodies i t u there) ∙ h.0, omega (arith, within, le), h.2)
+
+  -- where no step was made, the term itself was reached
+  pub chain_stays : (t u : Core) (limit nest k : ℕ) (deep : Bool) → k ≡ 0 → Arrives (normal_step bodies) t limit nest false u k deep → Arrives (normal_step bodies) t limit nest false t k deep
+  chain_stays t u limit nest k deep e h =
+      let start : after (normal_step bodies) 0 t ≡ Some u = ap (λ n. after (normal_step bodies) n t) (sym e) ∙ h.0 in
+      let same : u ≡ t = cc in
+      (ap (λ n. after (normal_step bodies) n t) e, h.1, subst (λ (x : Core). Stands (normal_step bodies) nest x deep) same h.2)

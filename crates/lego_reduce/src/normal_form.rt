@@ -76,10 +76,20 @@ fn normal_within(
         });
     }
     let inner = parts_within(alloc, bodies, &found.term, limit - found.steps, nest)?;
+    let steps = found.steps + inner.steps;
+    let is_deep = inner.is_deep;
+    if steps == 0 {
+        let term = t.share()?;
+        return Ok(Reached {
+            term,
+            steps,
+            is_deep,
+        });
+    }
     Ok(Reached {
         term: inner.term,
-        steps: found.steps + inner.steps,
-        is_deep: inner.is_deep,
+        steps,
+        is_deep,
     })
 }
 

@@ -1,10 +1,11 @@
-use Rattle.std.proofs.Common.{◌≡◌, ◌+◌, ◌-◌, ◌<◌, ◌≤◌, rules, arith, refl, false}
+use Rattle.std.proofs.Common.{◌≡◌, ◌+◌, ◌-◌, ◌<◌, ◌≤◌, rules, arith, refl, sym, subst, false}
 use Rattle.std.proofs.lemmas.Result.{err_from_is_err_and}
 use Rattle.lego_term.specs.Trees.{Core, App, Pair, depth, loose}
 use Rattle.lego_term.specs.BodyMap.{bodies_in}
-use Rattle.lego_reduce.specs.Nesting.{bound, projected}
+use Rattle.lego_reduce.specs.Nesting.{bound, projected, Arrives}
+use Rattle.lego_term.specs.Sequences.{normal_step}
 use Rattle.lego_reduce.proofs.ContextLemmas.{first_walks, first_fault, part_walks, part_fault, walk_fault, walk_end}
-use Rattle.lego_reduce.proofs.NormalLemmas.{IsNeutral, IsStopped, app_neutral, app_first, app_second, app_end, bound_first, bound_second, bound_end, projected_stopped, projected_part, projected_end, pair_first, pair_second, pair_third, pair_fourth, pair_end, after_head, head_fault, chain_fault, chain, around_bound_first, around_bound_second, around_function, around_argument, around_projected, around_pair_first, around_pair_second, around_pair_third, around_pair_fourth, loose_bound_first, loose_bound_second, loose_projected}
+use Rattle.lego_reduce.proofs.NormalLemmas.{IsNeutral, IsStopped, app_neutral, app_first, app_second, app_end, bound_first, bound_second, bound_end, projected_stopped, projected_part, projected_end, pair_first, pair_second, pair_third, pair_fourth, pair_end, after_head, head_fault, chain_fault, chain, chain_stays, around_bound_first, around_bound_second, around_function, around_argument, around_projected, around_pair_first, around_pair_second, around_pair_third, around_pair_fourth, loose_bound_first, loose_bound_second, loose_projected}
 use Rattle.lego_reduce.proofs.normal_form.+normal.Goals as goal
 
 pub application_parts-returns-in_err-first : goal.application_parts-returns-in_err-first
@@ -261,3 +262,14 @@ normal_within-returns t c =
     let i = c.in_ok-found.found.steps in
     let end = c.in_ok-found.ensures.end in
     chain b s u c.in_ok-inner.inner.term c.args.limit c.args.nest i c.in_ok-inner.inner.steps c.in_ok-inner.inner.is_deep end.0.reaches end.1 c.in_ok-inner.ensures
+
+pub normal_within-returns-then-steps-eq0 : goal.normal_within-returns-then-steps-eq0
+normal_within-returns-then-steps-eq0 t c =
+    let b = bodies_in c.args.bodies.now in
+    let s : Core = c.args.t.now in
+    let u : Core = c.in_ok-found.found.term in
+    let i = c.in_ok-found.found.steps in
+    let end = c.in_ok-found.ensures.end in
+    let h = chain b s u c.in_ok-inner.inner.term c.args.limit c.args.nest i c.in_ok-inner.inner.steps c.in_ok-inner.inner.is_deep end.0.reaches end.1 c.in_ok-inner.ensures in
+    let stays = chain_stays b s c.in_ok-inner.inner.term c.args.limit c.args.nest (i + c.in_ok-inner.inner.steps) c.in_ok-inner.inner.is_deep c.if-steps-eq0.true h in
+    subst (λ (x : Core). Arrives (normal_step b) s c.args.limit c.args.nest false x (i + c.in_ok-inner.inner.steps) c.in_ok-inner.inner.is_deep) (sym c.in_ok-term.ensures.same) stays
