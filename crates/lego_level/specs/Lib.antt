@@ -1,0 +1,4 @@
+pub mod Graphs
+pub mod Leaving
+pub mod Bounds
+pub mod Rising

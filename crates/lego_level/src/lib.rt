@@ -1,0 +1,11 @@
+//! Constraints between universe levels, kept with their least solution
+//! (Harper and Pollack, "Type checking with universes", 1991).
+#![tactic(auto)]
+
+mod bound;
+mod constraint;
+mod draft;
+mod edges;
+mod queue;
+
+pub use constraint::Constraint;
