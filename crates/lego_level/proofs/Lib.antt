@@ -1,2 +1,3 @@
-pub mod Members
-pub mod Rise
+pub mod MemberLemmas
+pub mod RiseLemmas
+pub mod SettleLemmas

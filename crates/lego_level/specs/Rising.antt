@@ -1,12 +1,13 @@
 -- What is known while bounds rise.
-use Rattle.std.specs.Prelude.{◌≡◌, nat_eq, ℕ, ◌+◌, ◌<◌, ◌≤◌, ◌⊎◌, Bool, true, false, List, Option, Some, None, get_or, Contains}
+use Rattle.std.specs.Prelude.{◌≡◌, nat_eq, ℕ, ◌+◌, ◌<◌, ◌≤◌, ◌⊎◌, Bool, true, false, List, [], ◌∷◌, Option, Some, None, get_or, Contains}
 use Rattle.std.specs.HashMap.{get}
 use Rattle.lego_term.specs.Levels.{Assignment, Satisfies}
 use Rattle.lego_level.specs.declared.constraint.Constraint.{Constraint}
 use Rattle.lego_level.specs.declared.bound.Bound.{Bound}
 use Rattle.lego_level.specs.declared.draft.Raise.{Raise}
 use Rattle.lego_level.specs.declared.draft.Draft.{Draft}
-use Rattle.lego_level.specs.Bounds.{value_of, rank_of, low_of, high_of, Meets}
+use Rattle.lego_level.specs.declared.rise.Rise.{Rise}
+use Rattle.lego_level.specs.Bounds.{value_of, rank_of, low_of, high_of, Meets, Caused}
 
 unfoldable pub raise_of : Draft → ℕ → Option Raise
 raise_of d u = get nat_eq d.raised u
@@ -63,3 +64,57 @@ pub record Rising (f : ℕ → Bound) (cs : List Constraint) (e : Constraint) (d
   pub limit : (c : Constraint) → broken ≡ Some c → IsBroken f cs d c
   pub head : low_of (current f d) e ≤ high_of (current f d) e
   pub least : (v : Assignment) → Meets v cs → Satisfies v e.low e.high → (u : ℕ) → (current f d u).value ≤ get_or v u 0
+
+-- whether a variable rose and was looked at
+abbrev pub is_done : Option Raise → Bool
+is_done None = false
+is_done (Some r) = r.done
+
+-- each raised variable was touched
+abbrev pub IsTouched : Draft → Type 0
+IsTouched d = (u : ℕ) (r : Raise) → raise_of d u ≡ Some r → Contains d.touched.items u
+
+-- a variable has a new raised bound, and waits
+pub record IsRaisedTo (f : ℕ → Bound) (c : Constraint) (to value rank : ℕ) (old new : Rise) : Type 0 where
+  pub raise : Raise
+  pub gain : ℕ
+  pub value_is : raise.bound.value ≡ value
+  pub cause_is : raise.bound.cause ≡ c
+  pub rank_is : raise.bound.rank ≡ rank + 1
+  pub fresh : raise.done ≡ false
+  pub gain_is : gain + (f to).value ≡ value
+  pub at : raise_of new.draft to ≡ Some raise
+  pub other : (u : ℕ) → (u ≡ to → ⊥) → raise_of new.draft u ≡ raise_of old.draft u
+  pub there : Contains new.queue (gain, to)
+  pub keeps : (x : ℕ × ℕ) → Contains old.queue x → Contains new.queue x
+  pub only : (x : ℕ × ℕ) → Contains new.queue x → (x ≡ (gain, to)) ⊎ Contains old.queue x
+  pub broken : new.broken ≡ old.broken
+
+pub record Scans (f : ℕ → Bound) (cs : List Constraint) (e : Constraint) (rise : Rise) (from : ℕ) (todo : List Constraint) : Type 0 where
+  pub top : ℕ
+  pub raise : Raise
+  pub has : raise_of rise.draft from ≡ Some raise
+  pub done : raise.done ≡ true
+  pub exact : top + (f from).value ≡ raise.bound.value
+  pub touched : IsTouched rise.draft
+  pub rising : Rising f cs e (raise_of rise.draft) rise.queue top todo rise.broken
+
+pub record RisesOn (f : ℕ → Bound) (cs : List Constraint) (e : Constraint) (rise : Rise) : Type 0 where
+  pub top : ℕ
+  pub touched : IsTouched rise.draft
+  pub rising : Rising f cs e (raise_of rise.draft) rise.queue top [] rise.broken
+
+-- a variable from which causes lead back to `end`
+abbrev pub OnWay : (ℕ → Option Raise) → Option ℕ → ℕ → Type 0
+OnWay d end u = (end ≡ None) ⊎ ((r : Raise) × (d u ≡ Some r))
+
+abbrev pub LeadsBack : (ℕ → Option Raise) → Option ℕ → Option ℕ → Type 0
+LeadsBack d end base = (base ≡ end) ⊎ ((u : ℕ) × (base ≡ Some u) × OnWay d end u)
+
+-- c is not satisfied, and causes lead from its low node back to its high node
+pub record Closes (f : ℕ → Bound) (cs : List Constraint) (e : Constraint) (d : ℕ → Option Raise) (c : Constraint) : Type 0 where
+  pub held : Contains (e ∷ cs) c
+  pub over : high_of (current f d) c < low_of (current f d) c
+  pub start : LeadsBack d c.high.base c.low.base
+  pub caused : (u : ℕ) → OnWay d c.high.base u → Caused (current f d) (e ∷ cs) u (current f d u)
+  pub onward : (u : ℕ) → OnWay d c.high.base u → LeadsBack d c.high.base (current f d u).cause.low.base

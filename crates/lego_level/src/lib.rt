@@ -7,5 +7,6 @@ mod constraint;
 mod draft;
 mod edges;
 mod queue;
+mod rise;
 
 pub use constraint::Constraint;

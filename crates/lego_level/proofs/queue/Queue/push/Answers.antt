@@ -1,5 +1,5 @@
 use Rattle.std.proofs.Common.{subst, sym, ◌≡◌, ◌⊎◌, Contains}
-use Rattle.lego_level.proofs.Members.{pushed_only, pushed_keeps, pushed_there}
+use Rattle.lego_level.proofs.MemberLemmas.{pushed_only, pushed_keeps, pushed_there}
 use Rattle.lego_level.proofs.queue.Queue.push.Goals as goal
 
 pub returns-clause-there : goal.returns-clause-there

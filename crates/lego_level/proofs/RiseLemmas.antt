@@ -3,7 +3,7 @@ use Rattle.std.proofs.Common.{◌≡◌, ℕ, ◌+◌, ◌-◌, ◌<◌, ◌≤�
 use Rattle.std.proofs.lemmas.Bool.{cases_eq}
 use Rattle.std.proofs.Math.Path.{fun_ext}
 use Rattle.lego_term.specs.Levels.{Assignment, Satisfies, node_value}
-use Rattle.lego_level.proofs.Members.{contains_none, contains_cases}
+use Rattle.lego_level.proofs.MemberLemmas.{contains_none, contains_cases}
 use Rattle.lego_level.specs.declared.constraint.Constraint.{Constraint}
 use Rattle.lego_level.specs.declared.bound.Bound.{Bound}
 use Rattle.lego_level.specs.declared.draft.Raise.{Raise}
