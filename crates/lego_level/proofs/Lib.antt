@@ -1,3 +1,5 @@
+pub mod CountLemmas
 pub mod MemberLemmas
 pub mod RiseLemmas
 pub mod SettleLemmas
+pub mod StepLemmas

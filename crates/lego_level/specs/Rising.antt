@@ -1,5 +1,5 @@
 -- What is known while bounds rise.
-use Rattle.std.specs.Prelude.{◌≡◌, nat_eq, ℕ, ◌+◌, ◌<◌, ◌≤◌, ◌⊎◌, Bool, true, false, List, [], ◌∷◌, Option, Some, None, get_or, Contains}
+use Rattle.std.specs.Prelude.{◌≡◌, nat_eq, ℕ, ◌+◌, ◌<◌, ◌≤◌, ◌⊎◌, Bool, true, false, List, [], ◌∷◌, Option, Some, None, get_or, Contains, length}
 use Rattle.std.specs.HashMap.{get}
 use Rattle.lego_term.specs.Levels.{Assignment, Satisfies}
 use Rattle.lego_level.specs.declared.constraint.Constraint.{Constraint}
@@ -89,6 +89,38 @@ pub record IsRaisedTo (f : ℕ → Bound) (c : Constraint) (to value rank : ℕ)
   pub keeps : (x : ℕ × ℕ) → Contains old.queue x → Contains new.queue x
   pub only : (x : ℕ × ℕ) → Contains new.queue x → (x ≡ (gain, to)) ⊎ Contains old.queue x
   pub broken : new.broken ≡ old.broken
+
+-- what a look at a constraint from a variable of the given bound does
+pub record IsClosing (f : ℕ → Bound) (e c : Constraint) (bound : Bound) (old new : Rise) : Type 0 where
+  pub to : ℕ
+  pub high : c.high.base ≡ Some to
+  pub tail : e.low.base ≡ Some to
+  pub over : high_of (current f (raise_of old.draft)) c < bound.value + c.low.plus
+  pub same : new ≡ old
+
+pub record IsPassing (f : ℕ → Bound) (c : Constraint) (bound : Bound) (old new : Rise) : Type 0 where
+  pub fine : bound.value + c.low.plus ≤ high_of (current f (raise_of old.draft)) c
+  pub same : new ≡ old
+
+pub record IsBreaking (f : ℕ → Bound) (c : Constraint) (bound : Bound) (old new : Rise) : Type 0 where
+  pub high : c.high.base ≡ None
+  pub over : c.high.plus < bound.value + c.low.plus
+  pub same : new ≡ record old { broken = Some c }
+
+pub record IsRaising (f : ℕ → Bound) (e c : Constraint) (bound : Bound) (old new : Rise) : Type 0 where
+  pub to : ℕ
+  pub value : ℕ
+  pub high : c.high.base ≡ Some to
+  pub free : e.low.base ≡ Some to → ⊥
+  pub value_is : value + c.high.plus ≡ bound.value + c.low.plus
+  pub more : (current f (raise_of old.draft) to).value < value
+  pub raised : IsRaisedTo f c to value bound.rank old new
+  pub touched : IsTouched old.draft → IsTouched new.draft
+  pub waiting : length new.queue ≡ length old.queue + 1
+
+abbrev pub Visited : (ℕ → Bound) → Constraint → Constraint → Bound → Rise → Rise → Bool → Type 0
+Visited f e c bound old new true = IsClosing f e c bound old new
+Visited f e c bound old new false = IsPassing f c bound old new ⊎ (IsBreaking f c bound old new ⊎ IsRaising f e c bound old new)
 
 pub record Scans (f : ℕ → Bound) (cs : List Constraint) (e : Constraint) (rise : Rise) (from : ℕ) (todo : List Constraint) : Type 0 where
   pub top : ℕ

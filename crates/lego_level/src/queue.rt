@@ -45,7 +45,7 @@ impl Queue {
 
     /// Takes a pair whose gain is greatest.
     pub fn pop(&mut self) -> Option<(u64, u32)>
-        ensures none { IfNone result (self.old ≡ []) }
+        ensures none { IfNone result ((self.old ≡ []) × (self.new ≡ [])) }
         ensures len { IfSome result (λ _. length self.new + 1 ≡ length self.old) }
         ensures was { IfSome result (λ e. Contains self.old e) }
         ensures greatest { IfSome result (λ e. (d : ℕ × ℕ) → Contains self.new d → d.0 ≤ e.0) }

@@ -4,7 +4,7 @@
 ghost use Rattle.std.specs.Prelude.{◌≡◌, ◌+◌, ◌<◌, ◌≤◌, ◌∷◌, [], ℕ, Some, None, false, length, IfOk, OnOk, MatchOption};
 ghost use Rattle.lego_level.specs.Bounds.{bounds_of, value_of, rank_of, low_of, high_of, Settled};
 ghost use Rattle.lego_level.specs.Leaving.{leaving};
-ghost use Rattle.lego_level.specs.Rising.{raise_of, current, is_done, IsTouched, IsRaisedTo, Scans, Closes, RisesOn};
+ghost use Rattle.lego_level.specs.Rising.{raise_of, current, is_done, IsTouched, IsRaisedTo, Visited, Scans, Closes, RisesOn};
 
 use std::alloc::{AllocError, Global};
 
@@ -84,6 +84,37 @@ fn raise_to(
     rise.queue.push(value - kept_at(bounds, to).value, to)
 }
 
+/// Looks at one constraint from a variable of the given bound. The answer is whether it would
+/// raise the tail of the added constraint.
+fn visit(
+    bounds: &[Bound],
+    added: Constraint,
+    constraint: Constraint,
+    bound: Bound,
+    rise: &mut Rise,
+) -> Result<bool, AllocError>
+    requires { (u : ℕ) → (bounds_of bounds.now u).value ≤ (current (bounds_of bounds.now) (raise_of rise.old.draft) u).value }
+    ensures { IfOk result (Visited (bounds_of bounds.now) added constraint bound rise.old rise.new) }
+{
+    let needed = bound.value.checked_add(u64::from(constraint.low.plus)).ok_or(AllocError)?;
+    let plus = u64::from(constraint.high.plus);
+    let Some(to) = constraint.high.base else {
+        if needed > plus {
+            rise.broken = Some(constraint);
+        }
+        return Ok(false);
+    };
+    let value = needed.saturating_sub(plus);
+    if value <= current_at(bounds, &rise.draft, to).value {
+        return Ok(false);
+    }
+    if added.low.base == Some(to) {
+        return Ok(true);
+    }
+    raise_to(bounds, constraint, to, value, bound.rank, rise)?;
+    Ok(false)
+}
+
 /// Looks at the constraints that leave a variable. The answer is one that comes to the tail of
 /// the added constraint and would raise it.
 fn relax(
@@ -101,18 +132,8 @@ fn relax(
 {
     let bound = current_at(bounds, &rise.draft, from);
     for constraint in edges.leaving(from) {
-        let needed = bound.value.checked_add(u64::from(constraint.low.plus)).ok_or(AllocError)?;
-        let plus = u64::from(constraint.high.plus);
-        if let Some(to) = constraint.high.base {
-            let value = needed.saturating_sub(plus);
-            if value > current_at(bounds, &rise.draft, to).value {
-                if added.low.base == Some(to) {
-                    return Ok(Some(*constraint));
-                }
-                raise_to(bounds, *constraint, to, value, bound.rank, rise)?;
-            }
-        } else if needed > plus {
-            rise.broken = Some(*constraint);
+        if visit(bounds, added, *constraint, bound, rise)? {
+            return Ok(Some(*constraint));
         }
     }
     Ok(None)
