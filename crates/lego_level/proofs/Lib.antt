@@ -1,4 +1,5 @@
 pub mod CountLemmas
+pub mod CycleLemmas
 pub mod MemberLemmas
 pub mod RiseLemmas
 pub mod SettleLemmas

@@ -112,15 +112,68 @@ nothing f all = record {
   }
 
 -- kept bounds are settled
-pub settled : (f : ℕ → Bound) (cs : List Constraint) (hs : List (List Change)) → IsKept f cs hs → Settled f cs
+pub settled : (n : ℕ) (f : ℕ → Bound) (cs : List Constraint) (hs : List (List Change)) → IsKept n f cs hs → Settled f cs
 unfolding IsKept
-settled f [] [] k = nothing f k
-settled f [] (h ∷ hs) k = absurd k
-settled f (c ∷ cs) [] k = absurd k
-settled f (c ∷ cs) (h ∷ hs) k = k.0
+settled n f [] [] k = nothing f k
+settled n f [] (h ∷ hs) k = absurd k
+settled n f (c ∷ cs) [] k = absurd k
+settled n f (c ∷ cs) (h ∷ hs) k = k.0
 
-put_at : (f : ℕ → Bound) (u : ℕ) (b : Bound) (w : ℕ) → w ≡ u → put f u b w ≡ b
+-- more room
+pub kept_wider : (n m : ℕ) → n ≤ m → (f : ℕ → Bound) (cs : List Constraint) (hs : List (List Change)) → IsKept n f cs hs → IsKept m f cs hs
+unfolding IsKept
+kept_wider n m w f [] [] k = k
+kept_wider n m w f [] (h ∷ hs) k = absurd k
+kept_wider n m w f (c ∷ cs) [] k = absurd k
+kept_wider n m w f (c ∷ cs) (h ∷ hs) k = (k.0, (λ x y. let z = k.1 x y in omega (arith, z, w)), kept_wider n m w (undo h f) cs hs k.2)
+
+-- the same constraints in another order
+pub settled_same : (f : ℕ → Bound) (cs cs' : List Constraint) → ((c : Constraint) → Contains cs c → Contains cs' c) → ((c : Constraint) → Contains cs' c → Contains cs c) → Settled f cs → Settled f cs'
+settled_same f cs cs' into back s = record {
+    holds = λ c h. s.holds c (back c h);
+    least = λ v meets. s.least v (λ c h. meets c (into c h));
+    caused = λ u. let x = s.caused u in record {
+      known = ⊎_elim (λ k. inl (into (f u).cause k)) (λ k. inr k) x.known;
+      high = x.high;
+      tight = x.tight;
+      rank = x.rank;
+    };
+  }
+
+pub put_at : (f : ℕ → Bound) (u : ℕ) (b : Bound) (w : ℕ) → w ≡ u → put f u b w ≡ b
 put_at f u b w e = let t : nat_eq w u ≡ true = grind (arith, nat_tests) in ap (λ x. cond x b (f w)) t
 
-put_other : (f : ℕ → Bound) (u : ℕ) (b : Bound) (w : ℕ) → (w ≡ u → ⊥) → put f u b w ≡ f w
+pub put_other : (f : ℕ → Bound) (u : ℕ) (b : Bound) (w : ℕ) → (w ≡ u → ⊥) → put f u b w ≡ f w
 put_other f u b w n = let t : nat_eq w u ≡ false = grind (arith, nat_tests) in ap (λ x. cond x b (f w)) t
+
+-- old bounds put back give the old bounds
+undone_at : (f : ℕ → Bound) (h : List Change) (g : ℕ → Bound) → ((x : Change) → Contains h x → x.before ≡ f x.variable)
+    → ((u : ℕ) → (g u ≡ f u) ⊎ ((x : Change) × Contains h x × (x.variable ≡ u))) → (u : ℕ) → undo h g u ≡ f u
+undone_at f [] g old all u = ⊎_elim {C = g u ≡ f u} (λ k. k) (λ z. absurd (contains_none z.0 z.1)) (all u)
+undone_at f (x ∷ hs) g old all u = undone_at f hs (put g x.variable x.before) (λ y k. old y (contains_tail x hs y k))
+    (λ w. ⊎_elim {C = (put g x.variable x.before w ≡ f w) ⊎ ((y : Change) × Contains hs y × (y.variable ≡ w))}
+      (λ e. inl (put_at g x.variable x.before w e ∙ (old x (contains_head x hs) ∙ ap f (sym e))))
+      (λ ne. ⊎_elim {C = (put g x.variable x.before w ≡ f w) ⊎ ((y : Change) × Contains hs y × (y.variable ≡ w))}
+        (λ k. inl (put_other g x.variable x.before w ne ∙ k))
+        (λ z. ⊎_elim {C = (put g x.variable x.before w ≡ f w) ⊎ ((y : Change) × Contains hs y × (y.variable ≡ w))}
+          (λ k. absurd (ne (sym z.2 ∙ ap (λ (y : Change). y.variable) k))) (λ k. inr (z.0, k, z.2)) (contains_cases x hs z.0 z.1)) (all w)) (cases_eq w x.variable)) u
+
+pub undone : (f g : ℕ → Bound) (h : List Change) → ((x : Change) → Contains h x → x.before ≡ f x.variable)
+    → ((u : ℕ) → (g u ≡ f u) ⊎ ((x : Change) × Contains h x × (x.variable ≡ u))) → undo h g ≡ f
+undone f g h old all = fun_ext (undone_at f h g old all)
+
+-- one constraint more
+pub kept_more : (n : ℕ) (f g : ℕ → Bound) (c : Constraint) (cs : List Constraint) (h : List Change) (hs : List (List Change)) → IsKept n f cs hs → Settled g (c ∷ cs)
+    → ((x : Change) → Contains h x → x.variable < n) → undo h g ≡ f → IsKept n g (c ∷ cs) (h ∷ hs)
+unfolding IsKept
+kept_more n f g c cs h hs k s below same = (s, below, subst (λ m. IsKept n m cs hs) (sym same) k)
+
+-- one constraint less
+pub kept_less : (n : ℕ) (f : ℕ → Bound) (c : Constraint) (cs : List Constraint) (h : List Change) (hs : List (List Change)) → IsKept n f (c ∷ cs) (h ∷ hs)
+    → ((x : Change) → Contains h x → x.variable < n) × IsKept n (undo h f) cs hs
+unfolding IsKept
+kept_less n f c cs h hs k = (k.1, k.2)
+
+pub kept_none : (n : ℕ) (f : ℕ → Bound) → ((u : ℕ) → f u ≡ fresh_bound u) → IsKept n f [] []
+unfolding IsKept
+kept_none n f k = k

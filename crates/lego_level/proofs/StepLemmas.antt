@@ -1,8 +1,10 @@
 -- The steps of the loops by which bounds rise.
 use Rattle.std.proofs.Common.{◌≡◌, ℕ, ◌+◌, ◌-◌, ◌<◌, ◌≤◌, ◌⊎◌, Bool, true, false, Option, Some, None, List, [], ◌∷◌, length, get_or, drop, Contains, refl, sym, ap, ◌∙◌, inl, inr, ⊎_elim, arith, rules, subst}
+use Rattle.std.specs.Option.{option_or, MatchOption}
 use Rattle.std.proofs.lemmas.Bool.{cases_eq}
 use Rattle.std.proofs.lemmas.List.{drop_more}
 use Rattle.std.proofs.lemmas.List.Elements.{Contains-get_or}
+use Rattle.std.proofs.Math.Path.{fun_ext}
 use Rattle.lego_level.specs.declared.constraint.Constraint.{Constraint}
 use Rattle.lego_level.specs.declared.bound.Bound.{Bound}
 use Rattle.lego_level.specs.declared.draft.Raise.{Raise}
@@ -90,6 +92,21 @@ module _ (f : ℕ → Bound) (cs : List Constraint) (e : Constraint) where
         (λ k. subst (λ z. is_done (raise_of new.draft z) ≡ is_done (raise_of old.draft z)) (sym k) (ap is_done r.at ∙ (r.fresh ∙ sym was)))
         (λ ne. ap is_done (r.other u ne)) (cases_eq u to))
 
+  -- causes are links, and known
+  pub closes_by : (d : ℕ → Option Raise) (c : Constraint) → Contains (e ∷ cs) c → high_of (current f d) c < low_of (current f d) c → LeadsBack d c.high.base c.low.base
+      → ((u : ℕ) → OnWay d c.high.base u → Caused (current f d) (e ∷ cs) u (current f d u)) → ((u : ℕ) → OnWay d c.high.base u → LeadsBack d c.high.base (current f d u).cause.low.base)
+      → Closes f cs e d c
+  closes_by d c held over start caused onward = record {
+      held = held;
+      known = λ u on. (caused u on).known;
+      turns = record {
+        over = over;
+        start = start;
+        links = λ u on. let x = caused u on in record { high = x.high; tight = x.tight; rank = x.rank };
+        onward = onward;
+      };
+    }
+
   -- a constraint that would raise the tail
   pub scan_close : (rise : Rise) (from to : ℕ) (todo todo' : List Constraint) (c : Constraint) → Scans f cs e rise from todo → todo ≡ c ∷ todo'
       → Contains cs c → c.low.base ≡ Some from → c.high.base ≡ Some to → e.low.base ≡ Some to
@@ -97,33 +114,42 @@ module _ (f : ℕ → Bound) (cs : List Constraint) (e : Constraint) where
       → Closes f cs e (raise_of rise.draft) c
   scan_close rise from to todo todo' c s is held low high tail over =
       let raised : (u : ℕ) → OnWay (raise_of rise.draft) c.high.base u → (r : Raise) × (raise_of rise.draft u ≡ Some r) = λ u on. ⊎_elim (λ n. absurd (cc)) (λ z. z) on in
-      record {
-        held = contains_tail e cs c held;
-        over = over;
-        start = inr (from, low, inr (s.raise, s.has));
-        caused = λ u on. let z = raised u on in let x = s.rising.raised u z.0 z.1 in
+      closes_by (raise_of rise.draft) c (contains_tail e cs c held) over (inr (from, low, inr (s.raise, s.has)))
+        (λ u on. let z = raised u on in let x = s.rising.raised u z.0 z.1 in
           subst (λ b. Caused (current f (raise_of rise.draft)) (e ∷ cs) u b) (sym (ap (raised_or (f u)) z.1)) (record {
             known = inl (⊎_elim (λ k. subst (λ y. Contains (e ∷ cs) y) (sym k) (contains_head e cs)) (λ k. contains_tail e cs z.0.bound.cause k) x.known);
             high = x.high;
             tight = x.tight;
             rank = x.rank;
-          });
-        onward = λ u on. let z = raised u on in let x = s.rising.raised u z.0 z.1 in
+          }))
+        (λ u on. let z = raised u on in let x = s.rising.raised u z.0 z.1 in
           subst (λ (b : Bound). LeadsBack (raise_of rise.draft) c.high.base b.cause.low.base) (sym (ap (raised_or (f u)) z.1))
-            (⊎_elim (λ k. inl (k ∙ (tail ∙ sym high))) (λ k. inr (k.variable, k.is, inr (k.raise, k.has))) x.low);
-      }
+            (⊎_elim (λ k. inl (k ∙ (tail ∙ sym high))) (λ k. inr (k.variable, k.is, inr (k.raise, k.has))) x.low))
 
   -- a limit that is broken once all have risen
   pub limit_closes : (rise : Rise) (c : Constraint) → Settled f cs → RisesOn f cs e rise → rise.queue ≡ [] → rise.broken ≡ Some c → Closes f cs e (raise_of rise.draft) c
   limit_closes rise c settled s empty broken =
-      let x = s.rising.limit c broken in record {
-        held = contains_tail e cs c x.held;
-        over = x.over;
-        start = inr (x.low.variable, x.low.is, inl x.zero);
-        caused = λ u on. causes f cs e (raise_of rise.draft) rise.queue s.top rise.broken settled s.rising empty s.rising.tail u;
-        onward = λ u on. ⊎_elim {C = LeadsBack (raise_of rise.draft) c.high.base (current f (raise_of rise.draft) u).cause.low.base}
-          (λ n. inl (n ∙ sym x.zero)) (λ z. inr (z.0, z.1, inl x.zero)) (option_cases (current f (raise_of rise.draft) u).cause.low.base);
-      }
+      let x = s.rising.limit c broken in
+      closes_by (raise_of rise.draft) c (contains_tail e cs c x.held) x.over (inr (x.low.variable, x.low.is, inl x.zero))
+        (λ u on. causes f cs e (raise_of rise.draft) rise.queue s.top rise.broken settled s.rising empty s.rising.tail u)
+        (λ u on. ⊎_elim {C = LeadsBack (raise_of rise.draft) c.high.base (current f (raise_of rise.draft) u).cause.low.base}
+          (λ n. inl (n ∙ sym x.zero)) (λ z. inr (z.0, z.1, inl x.zero)) (option_cases (current f (raise_of rise.draft) u).cause.low.base))
+
+  -- the added constraint, where it comes to the zero node or goes round a single node
+  pub added_closes : (d : ℕ → Option Raise) → Settled f cs → ((u : ℕ) → d u ≡ None) → high_of f e < low_of f e → (e.high.base ≡ None) ⊎ (e.low.base ≡ e.high.base) → Closes f cs e d e
+  added_closes d settled none over ends_at =
+      let same : current f d ≡ f = fun_ext (λ u. ap (raised_or (f u)) (none u)) in
+      closes_by d e (contains_head e cs) (subst (λ m. high_of m e < low_of m e) (sym same) over)
+        (⊎_elim {C = LeadsBack d e.high.base e.low.base} (λ z. ⊎_elim {C = LeadsBack d e.high.base e.low.base} (λ n. inl (n ∙ sym z)) (λ y. inr (y.0, y.1, inl z)) (option_cases e.low.base)) (λ k. inl k) ends_at)
+        (λ u on. subst (λ m. Caused m (e ∷ cs) u (m u)) (sym same) (let x = settled.caused u in record {
+          known = ⊎_elim (λ k. inl (contains_tail e cs (f u).cause k)) (λ k. inr k) x.known;
+          high = x.high;
+          tight = x.tight;
+          rank = x.rank;
+        }))
+        (λ u on. ⊎_elim {C = LeadsBack d e.high.base (current f d u).cause.low.base}
+          (λ z. ⊎_elim {C = LeadsBack d e.high.base (current f d u).cause.low.base} (λ n. inl (n ∙ sym z)) (λ y. inr (y.0, y.1, inl z)) (option_cases (current f d u).cause.low.base))
+          (λ z. absurd (let n = none u in let z1 = z.1 in cc)) on)
 
   pub all_settle : (rise : Rise) → Settled f cs → RisesOn f cs e rise → rise.queue ≡ [] → rise.broken ≡ None → Settled (current f (raise_of rise.draft)) (e ∷ cs)
   all_settle rise settled s empty broken = finishes f cs e (raise_of rise.draft) rise.queue s.top settled (subst (λ b. Rising f cs e (raise_of rise.draft) rise.queue s.top [] b) broken s.rising) empty
@@ -187,3 +213,10 @@ pub item_rest : (R L : List Constraint) (i : ℕ) (d : Constraint) → R ≡ L �
 item_rest R L i d is h =
     let h' : i < length L = subst (λ z. i < length z) is h in
     (drop_more L i d h' ∙ ap (λ z. get_or z i d ∷ drop (i + 1) L) (sym is), subst (λ z. Contains L (get_or z i d)) (sym is) (Contains-get_or L i d h'))
+
+-- the first of two findings, if there is one
+pub or_found : {X : Type 0} (a b : Option X) (R P : Type 0) (Q : X → Type 0) → MatchOption a R Q
+    → (a ≡ None → R → b ≡ None → P) → (a ≡ None → R → (x : X) → b ≡ Some x → Q x) → MatchOption (option_or a b) P Q
+or_found (Some x) b R P Q h p q = h
+or_found None None R P Q h p q = p refl h refl
+or_found None (Some x) R P Q h p q = q refl h x refl

@@ -53,9 +53,9 @@ abbrev pub undo : List Change → (ℕ → Bound) → ℕ → Bound
 undo [] f = f
 undo (h ∷ hs) f = undo hs (put f h.variable h.before)
 
--- each constraint, the newest first, has the changes that it made
-unfoldable pub IsKept : (ℕ → Bound) → List Constraint → List (List Change) → Type 0
-IsKept f [] [] = (u : ℕ) → f u ≡ fresh_bound u
-IsKept f [] (h ∷ hs) = ⊥
-IsKept f (c ∷ cs) [] = ⊥
-IsKept f (c ∷ cs) (h ∷ hs) = Settled f (c ∷ cs) × IsKept (undo h f) cs hs
+-- each constraint, the newest first, has the changes that it made, to variables below n
+unfoldable pub IsKept : ℕ → (ℕ → Bound) → List Constraint → List (List Change) → Type 0
+IsKept n f [] [] = (u : ℕ) → f u ≡ fresh_bound u
+IsKept n f [] (h ∷ hs) = ⊥
+IsKept n f (c ∷ cs) [] = ⊥
+IsKept n f (c ∷ cs) (h ∷ hs) = Settled f (c ∷ cs) × ((x : Change) → Contains h x → x.variable < n) × IsKept n (undo h f) cs hs

@@ -7,7 +7,8 @@ use Rattle.lego_level.specs.declared.bound.Bound.{Bound}
 use Rattle.lego_level.specs.declared.draft.Raise.{Raise}
 use Rattle.lego_level.specs.declared.draft.Draft.{Draft}
 use Rattle.lego_level.specs.declared.rise.Rise.{Rise}
-use Rattle.lego_level.specs.Bounds.{value_of, rank_of, low_of, high_of, Meets, Caused}
+use Rattle.lego_level.specs.Bounds.{value_of, rank_of, low_of, high_of, Meets}
+use Rattle.lego_level.specs.Graphs.{implied}
 
 unfoldable pub raise_of : Draft → ℕ → Option Raise
 raise_of d u = get nat_eq d.raised u
@@ -143,10 +144,25 @@ OnWay d end u = (end ≡ None) ⊎ ((r : Raise) × (d u ≡ Some r))
 abbrev pub LeadsBack : (ℕ → Option Raise) → Option ℕ → Option ℕ → Type 0
 LeadsBack d end base = (base ≡ end) ⊎ ((u : ℕ) × (base ≡ Some u) × OnWay d end u)
 
+-- the cause of b is tight, comes to u, and leaves a node of lower rank
+pub record IsLink (m : ℕ → Bound) (u : ℕ) (b : Bound) : Type 0 where
+  pub high : b.cause.high.base ≡ Some u
+  pub tight : low_of m b.cause ≡ b.value + b.cause.high.plus
+  pub rank : rank_of m b.cause.low.base ≤ b.rank
+
 -- c is not satisfied, and causes lead from its low node back to its high node
-pub record Closes (f : ℕ → Bound) (cs : List Constraint) (e : Constraint) (d : ℕ → Option Raise) (c : Constraint) : Type 0 where
-  pub held : Contains (e ∷ cs) c
+pub record Turns (f : ℕ → Bound) (d : ℕ → Option Raise) (c : Constraint) : Type 0 where
   pub over : high_of (current f d) c < low_of (current f d) c
   pub start : LeadsBack d c.high.base c.low.base
-  pub caused : (u : ℕ) → OnWay d c.high.base u → Caused (current f d) (e ∷ cs) u (current f d u)
+  pub links : (u : ℕ) → OnWay d c.high.base u → IsLink (current f d) u (current f d u)
   pub onward : (u : ℕ) → OnWay d c.high.base u → LeadsBack d c.high.base (current f d u).cause.low.base
+
+-- a constraint of the walk that closes with `closing`
+abbrev pub IsOnWalk : (ℕ → Bound) → (ℕ → Option Raise) → Constraint → Constraint → Type 0
+IsOnWalk f d closing c = (c ≡ closing) ⊎ ((u : ℕ) × OnWay d closing.high.base u × (c ≡ (current f d u).cause))
+
+-- the same, of known constraints
+pub record Closes (f : ℕ → Bound) (cs : List Constraint) (e : Constraint) (d : ℕ → Option Raise) (c : Constraint) : Type 0 where
+  pub held : Contains (e ∷ cs) c
+  pub known : (u : ℕ) → OnWay d c.high.base u → Contains (e ∷ cs) (current f d u).cause ⊎ ((current f d u).cause ≡ implied u)
+  pub turns : Turns f d c

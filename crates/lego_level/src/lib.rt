@@ -4,6 +4,7 @@
 
 mod bound;
 mod constraint;
+mod cycle;
 mod draft;
 mod edges;
 mod queue;
