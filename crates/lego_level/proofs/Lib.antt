@@ -4,3 +4,4 @@ pub mod MemberLemmas
 pub mod RiseLemmas
 pub mod SettleLemmas
 pub mod StepLemmas
+pub mod StoreLemmas

@@ -9,5 +9,7 @@ mod draft;
 mod edges;
 mod queue;
 mod rise;
+mod solver;
+mod store;
 
 pub use constraint::Constraint;
