@@ -1,5 +1,6 @@
 pub mod CountLemmas
 pub mod CycleLemmas
+pub mod MeaningLemmas
 pub mod MemberLemmas
 pub mod RiseLemmas
 pub mod SettleLemmas
