@@ -1,5 +1,5 @@
 -- What settled bounds mean: the least solution, and a value over the limit.
-use Rattle.std.proofs.Common.{◌≡◌, ℕ, ◌+◌, ◌<◌, ◌≤◌, ◌⊎◌, Option, Some, None, List, [], ◌∷◌, ◌++◌, map, length, get_or, reverse, Contains, refl, sym, ap, ◌∙◌, inl, inr, ⊎_elim, arith, subst}
+use Rattle.std.proofs.Common.{◌≡◌, Bool, true, false, ℕ, ◌+◌, ◌<◌, ◌≤◌, ◌⊎◌, Option, Some, None, List, [], ◌∷◌, ◌++◌, map, length, get_or, reverse, Contains, refl, sym, ap, ◌∙◌, inl, inr, ⊎_elim, arith, subst}
 use Rattle.std.specs.List.{AllByRecursion}
 use Rattle.std.specs.Option.{MatchOption, IfNone, IfSome}
 use Rattle.std.proofs.lemmas.Bool.{cases_lt}
@@ -10,12 +10,14 @@ use Rattle.lego_level.specs.declared.constraint.Constraint.{Constraint}
 use Rattle.lego_level.specs.declared.bound.Bound.{Bound}
 use Rattle.lego_level.specs.declared.bound.Change.{Change}
 use Rattle.lego_level.specs.declared.draft.Raise.{Raise}
-use Rattle.lego_level.specs.Graphs.{pair_of, pairs_of, implied, IsLeast, Forces, Exceeds, CanBeSatisfied, CanBeSatisfiedWithin}
+use Rattle.lego_level.specs.Graphs.{pair_of, pairs_of, implied, IsLeast, Forces, Exceeds, IsKnown, IsClosedWalk, IsCycle, CanBeSatisfied, CanBeSatisfiedWithin}
+use Rattle.lego_level.specs.Faults.{IsUnsatisfied}
 use Rattle.lego_level.specs.Bounds.{fresh_bound, bounds_of, value_of, low_of, high_of, Meets, Settled, undo, IsKept}
-use Rattle.lego_level.specs.Rising.{raised_or, current}
+use Rattle.lego_level.specs.Rising.{raised_or, current, IsOnWalk, Closes}
+use Rattle.lego_level.proofs.CycleLemmas.{cycle_excludes}
 use Rattle.lego_level.proofs.MemberLemmas.{contains_none, contains_cases, contains_head, contains_tail, contains-reverse, reverse-contains}
 use Rattle.lego_level.proofs.RiseLemmas.{option_cases}
-use Rattle.lego_level.proofs.SettleLemmas.{settled, settled_same, kept_less, kept_more, kept_none}
+use Rattle.lego_level.proofs.SettleLemmas.{settled, settled_same, kept_less, kept_more, kept_none, kept_wider}
 
 pub meets : (v : Assignment) (cs : List Constraint) → SatisfiesAll v (pairs_of cs) → Meets v cs
 meets v [] all c h = absurd (contains_none c h)
@@ -136,3 +138,50 @@ kept_popped n n' f f' es es' hs hs' h None same_n k is same_f none some =
     kept_impossible n f h (reverse hs') (subst (λ z. IsKept n f (reverse z) (h ∷ reverse hs')) none.0 (subst (λ z. IsKept n f (reverse es) z) (ap reverse is ∙ reverse-append hs' (h ∷ [])) k))
 kept_popped n n' f f' es es' hs hs' h (Some c) same_n k is same_f none some =
     subst (λ z. IsKept z f' (reverse es') (reverse hs')) (sym same_n) (subst (λ z. IsKept n z (reverse es') (reverse hs')) (sym same_f) (kept_pop n f es es' hs hs' c h some is k).1)
+
+least_same : (cs : List Constraint) (v w : Assignment) → IsLeast cs v → IsLeast cs w → (u : ℕ) → get_or v u 0 ≡ get_or w u 0
+least_same cs v w a b u = let x = a.least w b.satisfies u in let y = b.least v a.satisfies u in omega (arith, x, y)
+
+node_same : (v w : Assignment) → ((u : ℕ) → get_or v u 0 ≡ get_or w u 0) → (base : Option ℕ) → node_value v base ≡ node_value w base
+node_same v w h None = refl
+node_same v w h (Some u) = h u
+
+pub unsatisfied_bounds : (bs : List Bound) (cs : List Constraint) (c : Constraint) → Settled (bounds_of bs) cs → IsUnsatisfied cs c → high_of (bounds_of bs) c < low_of (bounds_of bs) c
+unsatisfied_bounds bs cs c s fails = let k = fails (values_of bs) (settled_least bs cs s) in let l = node_is bs c.low.base in let h = node_is bs c.high.base in omega (arith, k, l, h)
+
+pub bounds_unsatisfied : (bs : List Bound) (cs : List Constraint) (c : Constraint) → Settled (bounds_of bs) cs → high_of (bounds_of bs) c < low_of (bounds_of bs) c → IsUnsatisfied cs c
+bounds_unsatisfied bs cs c s over = λ v least.
+    let same = node_same v (values_of bs) (least_same cs v (values_of bs) least (settled_least bs cs s)) in
+    let a = same c.low.base in let b = same c.high.base in
+    let l = node_is bs c.low.base in let h = node_is bs c.high.base in omega (arith, over, l, h, a, b)
+
+pub head_or_last : (es : List Constraint) (c x : Constraint) → Contains (c ∷ es) x → Contains (es ++ c ∷ []) x
+head_or_last es c x h = ⊎_elim {C = Contains (es ++ c ∷ []) x} (λ e. subst (λ z. Contains (es ++ c ∷ []) z) (sym e) (Contains-push es c)) (λ k. Contains-append_left es (c ∷ []) x k) (contains_cases c es x h)
+
+pub last_or_head : (es : List Constraint) (c x : Constraint) → Contains (es ++ c ∷ []) x → Contains (c ∷ es) x
+last_or_head es c x h = ⊎_elim {C = Contains (c ∷ es) x} (λ k. contains_tail c es x k) (λ e. subst (λ z. Contains (c ∷ es) z) e (contains_head c es)) (Contains-push_cases es c x h)
+
+pub settled_last : (f : ℕ → Bound) (es es' : List Constraint) (c : Constraint) → es' ≡ es ++ c ∷ [] → Settled f (c ∷ es) → Settled f es'
+settled_last f es es' c is s = subst (λ z. Settled f z) (sym is) (settled_same f (c ∷ es) (es ++ c ∷ []) (head_or_last es c) (last_or_head es c) s)
+
+-- a cycle among the known constraints refuses the added one
+pub refuses : (f : ℕ → Bound) (es : List Constraint) (added closing : Constraint) (d : ℕ → Option Raise) (cycle : List Constraint) → Closes f es added d closing
+    → IsClosedWalk closing.high.base cycle → ((x : Constraint) → Contains cycle x → IsOnWalk f d closing x) → IsCycle (es ++ added ∷ []) cycle × (CanBeSatisfied (es ++ added ∷ []) → ⊥)
+refuses f es added closing d cycle k walk on =
+    let known : (x : Constraint) → Contains cycle x → IsKnown (es ++ added ∷ []) x = λ x h. ⊎_elim {C = IsKnown (es ++ added ∷ []) x}
+      (λ e. inl (subst (λ z. Contains (es ++ added ∷ []) z) (sym e) (head_or_last es added closing k.held)))
+      (λ z. ⊎_elim {C = IsKnown (es ++ added ∷ []) x}
+        (λ y. inl (subst (λ w. Contains (es ++ added ∷ []) w) (sym z.2) (head_or_last es added (current f d z.0).cause y)))
+        (λ y. inr (z.0, z.2 ∙ y)) (k.known z.0 z.1)) (on x h) in
+    (record { from = closing.high.base; walk = walk; known = known }, λ s. cycle_excludes s.0 closing.high.base cycle (es ++ added ∷ []) walk known (meets s.0 (es ++ added ∷ []) s.1))
+
+pub kept_grown : (bs bs' : List Bound) (es : List Constraint) (hs : List (List Change)) → length bs ≤ length bs' → bounds_of bs' ≡ bounds_of bs
+    → IsKept (length bs) (bounds_of bs) (reverse es) (reverse hs) → IsKept (length bs') (bounds_of bs') (reverse es) (reverse hs)
+kept_grown bs bs' es hs longer same k = kept_wider (length bs) (length bs') longer (bounds_of bs') (reverse es) (reverse hs) (subst (λ f. IsKept (length bs) f (reverse es) (reverse hs)) (sym same) k)
+
+pub match_weaker : {X : Type 0} (o : Option X) (P P' : Type 0) (Q Q' : X → Type 0) → (P → P') → ((x : X) → Q x → Q' x) → MatchOption o P Q → MatchOption o P' Q'
+match_weaker None P P' Q Q' p q m = p m
+match_weaker (Some x) P P' Q Q' p q m = q x m
+
+pub test_false : (a b : ℕ) (p : Bool) → ((p ≡ true → a ≤ b) × (a ≤ b → p ≡ true)) → p ≡ false → b < a
+test_false a b p k h = ⊎_elim {C = b < a} (λ l. l) (λ g. absurd (let t = k.1 g in cc)) (cases_lt b a)

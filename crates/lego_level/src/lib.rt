@@ -7,9 +7,13 @@ mod constraint;
 mod cycle;
 mod draft;
 mod edges;
+mod fault;
+mod graph;
 mod queue;
 mod rise;
 mod solver;
 mod store;
 
 pub use constraint::Constraint;
+pub use fault::GraphFault;
+pub use graph::Graph;
