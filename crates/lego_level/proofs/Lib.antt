@@ -1,5 +1,6 @@
 pub mod CountLemmas
 pub mod CycleLemmas
+pub mod GraphLemmas
 pub mod MeaningLemmas
 pub mod MemberLemmas
 pub mod RiseLemmas
