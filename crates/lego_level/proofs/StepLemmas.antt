@@ -1,9 +1,9 @@
 -- The steps of the loops by which bounds rise.
-use Rattle.std.proofs.Common.{◌≡◌, ℕ, ◌+◌, ◌-◌, ◌<◌, ◌≤◌, ◌⊎◌, Bool, true, false, Option, Some, None, List, [], ◌∷◌, length, get_or, drop, Contains, refl, sym, ap, ◌∙◌, inl, inr, ⊎_elim, arith, rules, subst}
+use Rattle.std.proofs.Common.{◌≡◌, ℕ, ◌+◌, ◌-◌, ◌<◌, ◌≤◌, ◌⊎◌, Bool, true, false, Option, Some, None, List, [], ◌∷◌, ◌++◌, Vec, Global, length, get_or, drop, Contains, refl, sym, ap, ◌∙◌, inl, inr, ⊎_elim, arith, rules, subst}
 use Rattle.std.specs.Option.{option_or, MatchOption}
 use Rattle.std.proofs.lemmas.Bool.{cases_eq}
 use Rattle.std.proofs.lemmas.List.{drop_more}
-use Rattle.std.proofs.lemmas.List.Elements.{Contains-get_or}
+use Rattle.std.proofs.lemmas.List.Elements.{Contains-get_or, Contains-push, Contains-append_left}
 use Rattle.std.proofs.Math.Path.{fun_ext}
 use Rattle.lego_level.specs.declared.constraint.Constraint.{Constraint}
 use Rattle.lego_level.specs.declared.bound.Bound.{Bound}
@@ -17,11 +17,15 @@ use Rattle.lego_level.proofs.MemberLemmas.{contains_none, contains_cases, contai
 use Rattle.lego_level.proofs.RiseLemmas.{option_cases, bool_cases, value_at, rank_at, some_same, begins, skips, marks, passes, breaks, raises}
 use Rattle.lego_level.proofs.SettleLemmas.{ends, causes, finishes}
 
-pub touched_more : (old new : Draft) (w : ℕ) → ((u : ℕ) → (u ≡ w → ⊥) → raise_of new u ≡ raise_of old u)
-    → ((u : ℕ) → Contains old.touched.items u → Contains new.touched.items u) → Contains new.touched.items w → IsTouched old → IsTouched new
-touched_more old new w other keeps there was u r h = ⊎_elim {C = Contains new.touched.items u}
-    (λ e. subst (λ z. Contains new.touched.items z) (sym e) there)
-    (λ ne. keeps u (was u r (sym (other u ne) ∙ h))) (cases_eq u w)
+pub touched_new : (old new : Draft) (w : ℕ) → ((u : ℕ) → (u ≡ w → ⊥) → raise_of new u ≡ raise_of old u) → new.touched.items ≡ old.touched.items ++ w ∷ [] → IsTouched old → IsTouched new
+touched_new old new w other is was u r h = subst (λ z. Contains z u) (sym is) (⊎_elim {C = Contains (old.touched.items ++ w ∷ []) u}
+    (λ e. subst (λ z. Contains (old.touched.items ++ w ∷ []) z) (sym e) (Contains-push old.touched.items w))
+    (λ ne. Contains-append_left old.touched.items (w ∷ []) u (was u r (sym (other u ne) ∙ h))) (cases_eq u w))
+
+pub touched_again : (old new : Draft) (w : ℕ) (x : Raise) → ((u : ℕ) → (u ≡ w → ⊥) → raise_of new u ≡ raise_of old u) → raise_of old w ≡ Some x → new.touched ≡ old.touched → IsTouched old → IsTouched new
+touched_again old new w x other before is was u r h = subst (λ (z : Vec ℕ Global). Contains z.items u) (sym is) (⊎_elim {C = Contains old.touched.items u}
+    (λ e. was u x (ap (raise_of old) e ∙ before))
+    (λ ne. was u r (sym (other u ne) ∙ h)) (cases_eq u w))
 
 rest_of : (todo : List Constraint) (c : Constraint) (todo' : List Constraint) → todo ≡ c ∷ todo' → (x : Constraint) → Contains todo x → (x ≡ c) ⊎ Contains todo' x
 rest_of todo c todo' is x h = contains_cases c todo' x (subst (λ z. Contains z x) is h)

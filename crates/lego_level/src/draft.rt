@@ -1,6 +1,6 @@
 //! Bounds that rise while a constraint is taken in, before they are kept.
-ghost use Rattle.std.specs.Prelude.{◌≡◌, ◌==◌, ℕ, Some, None, if◌then◌else◌, Contains, OnOk, ◌⊎◌};
-ghost use Rattle.lego_level.specs.Rising.{raise_of};
+ghost use Rattle.std.specs.Prelude.{◌≡◌, ℕ, Some, None, OnOk};
+ghost use Rattle.lego_level.specs.Rising.{raise_of, IsTouched};
 
 use std::alloc::{AllocError, Global};
 use std::collections::HashMap;
@@ -40,11 +40,12 @@ impl Draft {
     pub fn put(&mut self, variable: u32, raise: Raise) -> Result<(), AllocError>
         ensures at { OnOk result (raise_of self.new variable ≡ Some raise) }
         ensures other { OnOk result ((u : ℕ) → (u ≡ variable → ⊥) → raise_of self.new u ≡ raise_of self.old u) }
-        ensures touched { OnOk result ((u : ℕ) → Contains self.old.touched.items u → Contains self.new.touched.items u) }
-        ensures touches { OnOk result (Contains self.new.touched.items variable) }
+        ensures touched { OnOk result (IsTouched self.old → IsTouched self.new) }
     {
-        self.raised.insert(variable, raise)?;
-        self.touched.push(variable)?;
+        let before = self.raised.insert(variable, raise)?;
+        if before.is_none() {
+            self.touched.push(variable)?;
+        }
         Ok(())
     }
 }

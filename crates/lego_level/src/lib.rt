@@ -13,6 +13,8 @@ mod queue;
 mod rise;
 mod solver;
 mod store;
+#[cfg(test)]
+mod tests;
 
 pub use constraint::Constraint;
 pub use fault::GraphFault;

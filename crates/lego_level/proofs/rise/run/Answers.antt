@@ -5,7 +5,7 @@ use Rattle.lego_level.specs.declared.rise.Rise.{Rise}
 use Rattle.lego_level.specs.Rising.{raise_of, is_done, RisesOn}
 use Rattle.lego_level.proofs.CountLemmas.{member_leaving, measure_falls, same_count, one_less, below_ceiling, ceiling, unseen_below, length_leaving}
 use Rattle.lego_level.proofs.MemberLemmas.{contains_head, contains_tail}
-use Rattle.lego_level.proofs.StepLemmas.{run_skip, run_mark, touched_more}
+use Rattle.lego_level.proofs.StepLemmas.{run_skip, run_mark}
 use Rattle.lego_level.proofs.rise.run.Goals as goal
 
 pub loop-gain-preserved-in_default-get : goal.loop-gain-preserved-in_default-get
@@ -24,7 +24,7 @@ relax-requires-clause-scans c =
     let new : Rise = record { draft = c.put.new.self; queue = c.pop.new.self; broken = c.loop-gain.rise.broken } in
     run_mark (bounds_of c.args.bounds.now) c.args.edges.now c.args.added c.loop-gain.rise new c.in-Some._gain c.in-Some.variable c.in-Some-get.raise c.loop-gain.invariant refl c.in-Some.ensures.was
       (sym c.get.ensures ∙ c.in-Some-get.is) c.if-raise.false c.in_ok-put.ensures.at c.in_ok-put.ensures.other
-      (touched_more c.loop-gain.rise.draft c.put.new.self c.in-Some.variable c.in_ok-put.ensures.other c.in_ok-put.ensures.touched c.in_ok-put.ensures.touches)
+      c.in_ok-put.ensures.touched
       c.in-Some.ensures.keeps c.in-Some.ensures.only c.in-Some.ensures.greatest
       (leaving c.in-Some.variable c.args.edges.now) (λ x h e. member_leaving c.args.edges.now c.in-Some.variable x h e)
 
