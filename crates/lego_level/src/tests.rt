@@ -3,7 +3,7 @@ ghost use Rattle.std.specs.Prelude.{◌≡◌, ◌<◌, Some, None};
 ghost use Rattle.lego_level.specs.Graphs.{IsVariableBelow};
 
 use std::alloc::Global;
-use std::test::{HostRuntime, Fail};
+use std::test::Fail;
 
 use lego_term::Level;
 
@@ -47,15 +47,69 @@ fn is_too_big(outcome: &Result<(), GraphFault>, want: Constraint, value: u64) ->
     matches!(outcome, Err(GraphFault::LevelTooBig { constraint, needed }) if *constraint == want && *needed == value)
 }
 
+/// What `extend` answers of `added` where `held` is held.
+fn outcome_of(alloc: Global, held: &[Constraint], added: &[Constraint]) -> Result<(), GraphFault> {
+    let mut graph = Graph::new(alloc);
+    graph.extend(alloc, held)?;
+    graph.extend(alloc, added)
+}
+
 #[test]
 fn a_chain_has_least_values(rt: HostRuntime) -> Result<(), Fail> {
     let alloc = rt.alloc();
     let mut graph = Graph::new(alloc);
-    let chain = [at_most(variable(0, 1), variable(1, 0)), at_most(variable(1, 1), variable(2, 0))];
-    let outcome = graph.extend(alloc, &chain);
+    let first = at_most(variable(0, 1), variable(1, 0));
+    let second = at_most(variable(1, 1), variable(2, 0));
+    let outcome = graph.extend(alloc, &[first, second]);
     assert!(rt; outcome.is_ok());
     let values = graph.least(alloc, 3)?;
     assert!(rt; values.as_slice() == [0, 1, 2].as_slice());
-    assert!(rt; graph.constraints() == chain.as_slice());
+    assert!(rt; graph.constraints() == [first, second].as_slice());
+    Ok(())
+}
+
+#[test]
+fn answers_to_single_constraints(rt: HostRuntime) {
+    let alloc = rt.alloc();
+    let rises = at_most(variable(0, 1), variable(1, 0));
+    let falls = at_most(variable(1, 0), variable(0, 0));
+    let even = at_most(variable(0, 0), variable(1, 0));
+    let low = at_most(fixed(3), variable(0, 0));
+    let high = at_most(variable(0, 0), fixed(2));
+    let wrong = at_most(fixed(3), fixed(2));
+    let far = at_most(fixed(1_000_000), variable(0, 0));
+    let beyond = at_most(fixed(1_000_001), variable(0, 0));
+    let negative = at_most(variable(0, 1), fixed(0));
+    let implied = at_most(fixed(0), variable(0, 0));
+    assert!(rt; is_cycle(&outcome_of(alloc, &[rises], &[falls]), &[falls, rises]));
+    assert!(rt; outcome_of(alloc, &[even], &[falls]).is_ok());
+    assert!(rt; is_cycle(&outcome_of(alloc, &[low], &[high]), &[low, high]));
+    assert!(rt; is_cycle(&outcome_of(alloc, &[high], &[low]), &[low, high]));
+    assert!(rt; is_cycle(&outcome_of(alloc, &[], &[wrong]), &[wrong]));
+    assert!(rt; is_too_big(&outcome_of(alloc, &[far], &[rises]), rises, 1_000_001));
+    assert!(rt; outcome_of(alloc, &[], &[far]).is_ok());
+    assert!(rt; is_too_big(&outcome_of(alloc, &[], &[beyond]), beyond, 1_000_001));
+    assert!(rt; is_cycle(&outcome_of(alloc, &[], &[negative]), &[implied, negative]));
+    assert!(rt; is_cycle(&outcome_of(alloc, &[far], &[rises, falls]), &[falls, rises]));
+}
+
+#[test]
+fn a_refusal_and_a_cut_go_back(rt: HostRuntime) -> Result<(), Fail> {
+    let alloc = rt.alloc();
+    let mut graph = Graph::new(alloc);
+    let first = at_most(fixed(2), variable(0, 0));
+    let second = at_most(variable(0, 1), variable(1, 0));
+    let third = at_most(fixed(7), variable(0, 0));
+    let back = at_most(variable(1, 0), variable(0, 0));
+    assert!(rt; graph.extend(alloc, &[first, second]).is_ok());
+    assert!(rt; is_cycle(&graph.extend(alloc, &[third, back]), &[back, second]));
+    assert!(rt; graph.len() == 2 && graph.constraints() == [first, second].as_slice());
+    assert!(rt; graph.extend(alloc, &[third]).is_ok());
+    assert!(rt; graph.len() == 3);
+    if graph.len() >= 1 {
+        graph.cut_to(1);
+    }
+    assert!(rt; graph.constraints() == [first].as_slice());
+    assert!(rt; graph.extend(alloc, &[back]).is_ok());
     Ok(())
 }
