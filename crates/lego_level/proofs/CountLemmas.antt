@@ -1,5 +1,5 @@
 -- How often the loop over waiting variables can turn.
-use Rattle.std.proofs.Common.{◌≡◌, ℕ, suc, zero, nat_eq, ◌+◌, ◌-◌, ◌*◌, ◌<◌, ◌≤◌, ◌⊎◌, Bool, true, false, cond, Option, Some, None, List, [], ◌∷◌, length, get_or, Contains, refl, sym, ap, ◌∙◌, inl, inr, ⊎_elim, arith, rules, subst}
+use Rattle.std.proofs.Common.{◌≡◌, ℕ, suc, zero, nat_eq, ◌+◌, ◌*◌, ◌<◌, ◌≤◌, ◌⊎◌, Bool, true, false, cond, Option, Some, None, List, [], ◌∷◌, length, Contains, refl, sym, ap, ◌∙◌, inl, inr, ⊎_elim, arith, subst}
 use Rattle.std.proofs.lemmas.Bool.{cases_eq}
 use Rattle.std.proofs.lemmas.Bool.Decides.{nat_tests}
 use Rattle.lego_level.specs.declared.constraint.Constraint.{Constraint}
@@ -43,10 +43,10 @@ pub one_less : (p p' : ℕ → Bool) (n w : ℕ) → w < n → p w ≡ false →
 one_less p p' zero w below was now other = absurd (omega arith)
 one_less p p' (suc n) w below was now other = ⊎_elim {C = unseen_below p' (suc n) + 1 ≡ unseen_below p (suc n)}
     (λ k. let a : miss (p' n) ≡ 0 = ap miss (subst (λ z. p' z ≡ true) (sym k) now) in
-      let b : miss (p n) ≡ 1 = ap miss (subst (λ z. p z ≡ false) (sym k) was) in
-      let r = same_count_below p p' n (λ u h. other u (λ e. absurd (omega (arith, e, k)))) in omega (arith, a, b, r))
+    let b : miss (p n) ≡ 1 = ap miss (subst (λ z. p z ≡ false) (sym k) was) in
+    let r = same_count_below p p' n (λ u h. other u (λ e. absurd (omega (arith, e, k)))) in omega (arith, a, b, r))
     (λ k. let a : miss (p' n) ≡ miss (p n) = ap miss (other n k) in
-      let r = one_less p p' n w (omega arith) was now other in omega (arith, a, r)) (cases_eq n w)
+    let r = one_less p p' n w (omega arith) was now other in omega (arith, a, r)) (cases_eq n w)
 
 -- the measure falls
 pub measure_falls : (a b m q q' x : ℕ) → b + 1 ≡ a → q' ≤ x + m → x + 1 ≡ q → b * (m + 1) + q' < a * (m + 1) + q
@@ -67,19 +67,19 @@ pub leaving_member : (cs : List Constraint) (u : ℕ) (c : Constraint) → Conta
 leaving_member [] u c h = absurd (contains_none c h)
 leaving_member (x ∷ cs) u c h = ⊎_elim {C = Contains (x ∷ cs) c × (c.low.base ≡ Some u)}
     (λ t. let h' : Contains (x ∷ leaving u cs) c = subst (λ b. Contains (cond b (x ∷ leaving u cs) (leaving u cs)) c) t h in
-      ⊎_elim {C = Contains (x ∷ cs) c × (c.low.base ≡ Some u)}
-        (λ e. (subst (λ z. Contains (x ∷ cs) z) (sym e) (contains_head x cs), ap (λ (z : Constraint). z.low.base) e ∙ variable_is u x.low.base t))
-        (λ k. let r = leaving_member cs u c k in (contains_tail x cs c r.0, r.1)) (contains_cases x (leaving u cs) c h'))
+    ⊎_elim {C = Contains (x ∷ cs) c × (c.low.base ≡ Some u)}
+    (λ e. (subst (λ z. Contains (x ∷ cs) z) (sym e) (contains_head x cs), ap (λ (z : Constraint). z.low.base) e ∙ variable_is u x.low.base t))
+    (λ k. let r = leaving_member cs u c k in (contains_tail x cs c r.0, r.1)) (contains_cases x (leaving u cs) c h'))
     (λ t. let h' : Contains (leaving u cs) c = subst (λ b. Contains (cond b (x ∷ leaving u cs) (leaving u cs)) c) t h in
-      let r = leaving_member cs u c h' in (contains_tail x cs c r.0, r.1)) (bool_split (is_variable u x.low.base))
+    let r = leaving_member cs u c h' in (contains_tail x cs c r.0, r.1)) (bool_split (is_variable u x.low.base))
 
 pub member_leaving : (cs : List Constraint) (u : ℕ) (c : Constraint) → Contains cs c → c.low.base ≡ Some u → Contains (leaving u cs) c
 member_leaving [] u c h e = absurd (contains_none c h)
 member_leaving (x ∷ cs) u c h e = ⊎_elim {C = Contains (leaving u (x ∷ cs)) c}
     (λ t. subst (λ b. Contains (cond b (x ∷ leaving u cs) (leaving u cs)) c) (sym t)
-      (⊎_elim {C = Contains (x ∷ leaving u cs) c} (λ k. subst (λ z. Contains (x ∷ leaving u cs) z) (sym k) (contains_head x (leaving u cs))) (λ k. contains_tail x (leaving u cs) c (member_leaving cs u c k e)) (contains_cases x cs c h)))
+    (⊎_elim {C = Contains (x ∷ leaving u cs) c} (λ k. subst (λ z. Contains (x ∷ leaving u cs) z) (sym k) (contains_head x (leaving u cs))) (λ k. contains_tail x (leaving u cs) c (member_leaving cs u c k e)) (contains_cases x cs c h)))
     (λ t. subst (λ b. Contains (cond b (x ∷ leaving u cs) (leaving u cs)) c) (sym t)
-      (⊎_elim {C = Contains (leaving u cs) c} (λ k. absurd (let y : is_variable u x.low.base ≡ true = is_the_variable u x.low.base (ap (λ (z : Constraint). z.low.base) (sym k) ∙ e) in let z : true ≡ false = sym y ∙ t in cc)) (λ k. member_leaving cs u c k e) (contains_cases x cs c h))) (bool_split (is_variable u x.low.base))
+    (⊎_elim {C = Contains (leaving u cs) c} (λ k. absurd (let y : is_variable u x.low.base ≡ true = is_the_variable u x.low.base (ap (λ (z : Constraint). z.low.base) (sym k) ∙ e) in let z : true ≡ false = sym y ∙ t in cc)) (λ k. member_leaving cs u c k e) (contains_cases x cs c h))) (bool_split (is_variable u x.low.base))
 
 pub length_leaving : (cs : List Constraint) (u : ℕ) → length (leaving u cs) ≤ length cs
 length_leaving [] u = omega arith

@@ -1,19 +1,19 @@
 -- A walk back along causes is a cycle.
-use Rattle.std.proofs.Common.{◌≡◌, ℕ, ◌+◌, ◌<◌, ◌≤◌, ◌⊎◌, Bool, true, false, not, eqb, Option, Some, None, List, [], ◌∷◌, map, sum_by, get_or, Contains, refl, sym, ap, ◌∙◌, inl, inr, ⊎_elim, arith, subst}
+use Rattle.std.proofs.Common.{◌≡◌, ℕ, ◌+◌, ◌<◌, ◌≤◌, ◌⊎◌, true, false, not, eqb, Option, Some, None, List, [], ◌∷◌, map, sum_by, Contains, refl, sym, ap, ◌∙◌, inl, inr, ⊎_elim, arith, subst}
 use Rattle.std.specs.List.{AllByRecursion}
 use Rattle.std.specs.Option.{option_eq}
 use Rattle.std.proofs.lemmas.Bool.{cases_eq}
 use Rattle.std.proofs.lemmas.Bool.Decides.{nat_tests}
 use Rattle.std.proofs.lemmas.List.Sums.{sum_by-cons}
-use Rattle.lego_term.specs.Levels.{Assignment, LevelPair, Satisfies, SatisfiesAll, node_value, level_value}
+use Rattle.lego_term.specs.Levels.{Assignment, Satisfies, node_value}
 use Rattle.lego_level.specs.declared.constraint.Constraint.{Constraint}
 use Rattle.lego_level.specs.declared.bound.Bound.{Bound}
 use Rattle.lego_level.specs.declared.draft.Raise.{Raise}
-use Rattle.lego_level.specs.Graphs.{pair_of, pairs_of, implied, IsWalk, Differ, IsClosedWalk}
-use Rattle.lego_level.specs.Bounds.{value_of, rank_of, low_of, high_of, Meets}
-use Rattle.lego_level.specs.Rising.{current, OnWay, LeadsBack, IsLink, Turns, IsOnWalk}
+use Rattle.lego_level.specs.Graphs.{implied, IsWalk, Differ, IsClosedWalk}
+use Rattle.lego_level.specs.Bounds.{value_of, rank_of, Meets}
+use Rattle.lego_level.specs.Rising.{current, OnWay, LeadsBack, Turns, IsOnWalk}
 use Rattle.lego_level.proofs.MemberLemmas.{contains_none, contains_cases, contains_head, contains_tail}
-use Rattle.lego_level.proofs.RiseLemmas.{value_at, rank_at, option_cases}
+use Rattle.lego_level.proofs.RiseLemmas.{value_at, rank_at}
 
 pub record Walked (f : ℕ → Bound) (d : ℕ → Option Raise) (closing : Constraint) (at : Option ℕ) (walk : List Constraint) : Type 0 where
   pub walks : IsWalk at walk closing.high.base
@@ -33,13 +33,13 @@ ranks_differ m base b (x ∷ xs) h all = ((λ e. let k : rank_of m base ≡ rank
 
 pub walk_starts : (f : ℕ → Bound) (d : ℕ → Option Raise) (closing : Constraint) → Turns f d closing → Walked f d closing closing.low.base (closing ∷ [])
 walk_starts f d closing t = let over = t.over in record {
-    walks = (refl, refl);
-    once = (tt, tt);
-    ranks = (omega arith, tt);
-    positive = omega (arith, over);
-    among = λ x h. ⊎_elim {C = IsOnWalk f d closing x} (λ k. inl k) (λ k. absurd (contains_none x k)) (contains_cases closing [] x h);
-    on = t.start;
-  }
+  walks = (refl, refl);
+  once = (tt, tt);
+  ranks = (omega arith, tt);
+  positive = omega (arith, over);
+  among = λ x h. ⊎_elim {C = IsOnWalk f d closing x} (λ k. inl k) (λ k. absurd (contains_none x k)) (contains_cases closing [] x h);
+  on = t.start;
+}
 
 -- a node on the way that is not the end
 pub on_way : (d : ℕ → Option Raise) (end at : Option ℕ) (u : ℕ) → LeadsBack d end at → (at ≡ end → ⊥) → at ≡ Some u → OnWay d end u
@@ -57,22 +57,24 @@ walk_more f d closing at walk u t w apart is =
     let r : rank_of (current f d) at ≡ (current f d u).rank + 1 = rank_at (current f d) at u is in
     let v : value_of (current f d) at ≡ (current f d u).value = value_at (current f d) at u is in
     let xr = x.rank in let xt = x.tight in let p = w.positive in
-    let fall : rank_of (current f d) (current f d u).cause.low.base < rank_of (current f d) at = omega (arith, r, xr) in
-    (record {
-      walks = (refl, subst (λ b. IsWalk b walk closing.high.base) (is ∙ sym x.high) w.walks);
-      once = (ranks_differ (current f d) (current f d u).cause.low.base (rank_of (current f d) at) walk fall w.ranks, w.once);
-      ranks = (omega arith, ranks_weaker (current f d) (rank_of (current f d) (current f d u).cause.low.base) (rank_of (current f d) at) walk (omega (arith, fall)) w.ranks);
-      positive = let h = sum_by-cons (λ (x : Constraint). x.high.plus) (current f d u).cause walk in let l = sum_by-cons (λ (x : Constraint). x.low.plus) (current f d u).cause walk in omega (arith, p, v, xt, h, l);
-      among = λ y h. ⊎_elim {C = IsOnWalk f d closing y} (λ k. inr (u, on, k)) (λ k. w.among y k) (contains_cases (current f d u).cause walk y h);
-      on = t.onward u on;
-    }, fall)
+    let fall : rank_of (current f d) (current f d u).cause.low.base < rank_of (current f d) at = omega (arith, r, xr) in (
+      record {
+        walks = (refl, subst (λ b. IsWalk b walk closing.high.base) (is ∙ sym x.high) w.walks);
+        once = (ranks_differ (current f d) (current f d u).cause.low.base (rank_of (current f d) at) walk fall w.ranks, w.once);
+        ranks = (omega arith, ranks_weaker (current f d) (rank_of (current f d) (current f d u).cause.low.base) (rank_of (current f d) at) walk (omega (arith, fall)) w.ranks);
+        positive = let h = sum_by-cons (λ (x : Constraint). x.high.plus) (current f d u).cause walk in let l = sum_by-cons (λ (x : Constraint). x.low.plus) (current f d u).cause walk in omega (arith, p, v, xt, h, l);
+        among = λ y h. ⊎_elim {C = IsOnWalk f d closing y} (λ k. inr (u, on, k)) (λ k. w.among y k) (contains_cases (current f d u).cause walk y h);
+        on = t.onward u on;
+      },
+      fall,
+    )
 
 pub walk_ends : (f : ℕ → Bound) (d : ℕ → Option Raise) (closing : Constraint) (at : Option ℕ) (walk : List Constraint) → Walked f d closing at walk → at ≡ closing.high.base → IsClosedWalk closing.high.base walk
 walk_ends f d closing at walk w is = let p = w.positive in let k : value_of (current f d) at ≡ value_of (current f d) closing.high.base = ap (value_of (current f d)) is in record {
-    closed = subst (λ b. IsWalk b walk closing.high.base) is w.walks;
-    once = w.once;
-    positive = omega (arith, p, k);
-  }
+  closed = subst (λ b. IsWalk b walk closing.high.base) is w.walks;
+  once = w.once;
+  positive = omega (arith, p, k);
+}
 
 -- along a walk whose constraints are satisfied, values rise by the total
 along : (v : Assignment) (from end : Option ℕ) (walk : List Constraint) → IsWalk from walk end → ((c : Constraint) → Contains walk c → Satisfies v c.low c.high)
@@ -89,7 +91,7 @@ pub cycle_excludes : (v : Assignment) (from : Option ℕ) (walk all : List Const
     → ((c : Constraint) → Contains walk c → Contains all c ⊎ ((u : ℕ) × (c ≡ implied u))) → Meets v all → ⊥
 cycle_excludes v from walk all w known meets =
     let k = along v from from walk w.closed (λ c h. ⊎_elim {C = Satisfies v c.low c.high} (λ y. meets c y)
-      (λ z. subst (λ (c : Constraint). Satisfies v c.low c.high) (sym z.1) (omega arith)) (known c h)) in
+    (λ z. subst (λ (c : Constraint). Satisfies v c.low c.high) (sym z.1) (omega arith)) (known c h)) in
     let p = w.positive in omega (arith, k, p)
 
 pub bases_apart : (a b : Option ℕ) → true ≡ not (option_eq eqb a b) → a ≡ b → ⊥

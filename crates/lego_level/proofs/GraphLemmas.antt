@@ -1,18 +1,17 @@
 -- Lists of constraints, and what is said of their parts.
-use Rattle.std.proofs.Common.{◌≡◌, Bool, true, false, ℕ, suc, zero, ◌+◌, ◌-◌, ◌<◌, ◌≤◌, ◌⊎◌, Option, Some, None, List, [], ◌∷◌, ◌++◌, length, get_or, take, drop, Contains, refl, sym, ap, ◌∙◌, inl, inr, ⊎_elim, arith, subst}
-use Rattle.std.specs.List.{AllByRecursion}
+use Rattle.std.proofs.Common.{◌≡◌, ℕ, suc, zero, ◌+◌, ◌-◌, ◌<◌, ◌≤◌, Option, Some, None, List, [], ◌∷◌, ◌++◌, length, get_or, take, drop, refl, sym, ap, ◌∙◌, inl, inr, ⊎_elim, arith, subst}
 use Rattle.std.specs.Option.{MatchOption, option_or}
 use Rattle.std.proofs.lemmas.Bool.{cases_lt, cases_eq}
-use Rattle.std.proofs.lemmas.List.{append_assoc, take-append-drop, take-take, length-take-le, get_or_past, get_or_append_left, get_or_push, length_push}
+use Rattle.std.proofs.lemmas.List.{append_assoc, take-append-drop, take-take, length-take-le, get_or_past, get_or_append_left, get_or_push}
 use Rattle.std.proofs.lemmas.List.Elements.{Contains-append_left}
-use Rattle.lego_term.specs.Levels.{Assignment, LevelPair, Satisfies, SatisfiesAll, node_value, level_value}
+use Rattle.lego_term.specs.Levels.{Assignment, SatisfiesAll, node_value}
 use Rattle.lego_level.specs.declared.constraint.Constraint.{Constraint}
 use Rattle.lego_level.specs.declared.solver.InsertFault.{InsertFault}
 use Rattle.lego_level.specs.declared.solver.InsertFault.TheVariants as insert
-use Rattle.lego_level.specs.Graphs.{pair_of, pairs_of, IsKnown, IsCycle, IsLeast, Forces, Exceeds, CanBeSatisfied, CanBeSatisfiedWithin, IsVariableBelow, HasVariablesBelow}
+use Rattle.lego_level.specs.Graphs.{pairs_of, IsKnown, IsLeast, Exceeds, CanBeSatisfied, CanBeSatisfiedWithin, IsVariableBelow, HasVariablesBelow}
 use Rattle.lego_level.specs.Faults.{IsInsertFault}
 use Rattle.lego_level.specs.Refusals.{graph_fault, IsGraphFault}
-use Rattle.lego_level.proofs.MeaningLemmas.{meets, satisfies, match_weaker}
+use Rattle.lego_level.proofs.MeaningLemmas.{meets, satisfies}
 
 pub satisfies_front : (v : Assignment) (xs ys : List Constraint) → SatisfiesAll v (pairs_of (xs ++ ys)) → SatisfiesAll v (pairs_of xs)
 satisfies_front v xs ys all = satisfies v xs (λ c h. meets v (xs ++ ys) all c (Contains-append_left xs ys c h))
@@ -27,11 +26,14 @@ pub exceeds_more : (xs ys zs : List Constraint) (u : ℕ) → zs ≡ xs ++ ys �
 exceeds_more xs ys zs u is e = subst (λ z. Exceeds z u) (sym is) (λ v all. e v (satisfies_front v xs ys all))
 
 pub fault_more : (xs ys : List Constraint) (f : InsertFault) → IsInsertFault xs f → IsGraphFault (xs ++ ys) (graph_fault f)
-fault_more xs ys (insert.Cycle cycle) k = (record {
+fault_more xs ys (insert.Cycle cycle) k = (
+  record {
     from = k.0.from;
     walk = k.0.walk;
     known = λ c h. ⊎_elim {C = IsKnown (xs ++ ys) c} (λ y. inl (Contains-append_left xs ys c y)) (λ y. inr y) (k.0.known c h);
-  }, λ s. k.1 (s.0, satisfies_front s.0 xs ys s.1))
+  },
+  λ s. k.1 (s.0, satisfies_front s.0 xs ys s.1),
+)
 fault_more xs ys insert.Memory k = tt
 
 -- the parts of a list of held and new constraints, at a turn
@@ -69,16 +71,16 @@ satisfies_below v w n (c ∷ cs) b same all =
 pub least_list : (cs : List Constraint) (xs : List ℕ) (n : ℕ) → HasVariablesBelow n cs → length xs ≡ n → CanBeSatisfied cs
     → ((u : ℕ) → u < n → (v : Assignment) × IsLeast cs v × (get_or v u 0 ≡ get_or xs u 0)) → IsLeast cs xs
 least_list cs xs n below len can all = record {
-    satisfies = whole n below len all;
-    least = λ w sat u. ⊎_elim {C = get_or xs u 0 ≤ get_or w u 0}
+  satisfies = whole n below len all;
+  least = λ w sat u. ⊎_elim {C = get_or xs u 0 ≤ get_or w u 0}
       (λ l. let a = all u l in let k = a.1.least w sat u in let e = a.2 in omega (arith, k, e))
       (λ g. let e = get_or_past xs u 0 (omega (arith, g, len)) in omega (arith, e)) (cases_lt u n);
-  }
+}
   where
     whole : (m : ℕ) → HasVariablesBelow m cs → length xs ≡ m → ((u : ℕ) → u < m → (v : Assignment) × IsLeast cs v × (get_or v u 0 ≡ get_or xs u 0)) → SatisfiesAll xs (pairs_of cs)
     whole zero b l a = satisfies_below can.0 xs 0 cs b (λ u h. absurd (omega (arith, h))) can.1
     whole (suc m) b l a = let first = a 0 (omega arith) in satisfies_below first.0 xs (suc m) cs b
-      (λ u h. let x = a u h in let p = first.1.least x.0 x.1.satisfies u in let q = x.1.least first.0 first.1.satisfies u in let e = x.2 in omega (arith, p, q, e)) first.1.satisfies
+        (λ u h. let x = a u h in let p = first.1.least x.0 x.1.satisfies u in let q = x.1.least first.0 first.1.satisfies u in let e = x.2 in omega (arith, p, q, e)) first.1.satisfies
 
 pub values_more : (cs : List Constraint) (xs ys : List ℕ) (n x : ℕ) → ys ≡ xs ++ x ∷ [] → length xs ≡ n → (v : Assignment) × IsLeast cs v × (get_or v n 0 ≡ x)
     → ((u : ℕ) → u < n → (v : Assignment) × IsLeast cs v × (get_or v u 0 ≡ get_or xs u 0)) → (u : ℕ) → u < n + 1 → (v : Assignment) × IsLeast cs v × (get_or v u 0 ≡ get_or ys u 0)

@@ -1,16 +1,15 @@
 -- What settled bounds mean: the least solution, and a value over the limit.
-use Rattle.std.proofs.Common.{◌≡◌, Bool, true, false, ℕ, ◌+◌, ◌<◌, ◌≤◌, ◌⊎◌, Option, Some, None, List, [], ◌∷◌, ◌++◌, map, length, get_or, reverse, Contains, refl, sym, ap, ◌∙◌, inl, inr, ⊎_elim, arith, subst}
-use Rattle.std.specs.List.{AllByRecursion}
+use Rattle.std.proofs.Common.{◌≡◌, Bool, true, false, ℕ, ◌<◌, ◌≤◌, Option, Some, None, List, [], ◌∷◌, ◌++◌, map, length, get_or, reverse, Contains, refl, sym, ap, ◌∙◌, inl, inr, ⊎_elim, arith, subst}
 use Rattle.std.specs.Option.{MatchOption, IfNone, IfSome}
 use Rattle.std.proofs.lemmas.Bool.{cases_lt}
 use Rattle.std.proofs.lemmas.List.{get_or-map, get_or_past, length-map, reverse-append, reverse-reverse}
 use Rattle.std.proofs.lemmas.List.Elements.{Contains-push_cases, Contains-push, Contains-append_left}
-use Rattle.lego_term.specs.Levels.{Assignment, LevelPair, Satisfies, SatisfiesAll, node_value, level_value}
+use Rattle.lego_term.specs.Levels.{Assignment, Satisfies, SatisfiesAll, node_value}
 use Rattle.lego_level.specs.declared.constraint.Constraint.{Constraint}
 use Rattle.lego_level.specs.declared.bound.Bound.{Bound}
 use Rattle.lego_level.specs.declared.bound.Change.{Change}
 use Rattle.lego_level.specs.declared.draft.Raise.{Raise}
-use Rattle.lego_level.specs.Graphs.{pair_of, pairs_of, implied, IsLeast, Forces, Exceeds, IsKnown, IsClosedWalk, IsCycle, CanBeSatisfied, CanBeSatisfiedWithin}
+use Rattle.lego_level.specs.Graphs.{pairs_of, IsLeast, Forces, Exceeds, IsKnown, IsClosedWalk, IsCycle, CanBeSatisfied, CanBeSatisfiedWithin}
 use Rattle.lego_level.specs.Faults.{IsUnsatisfied}
 use Rattle.lego_level.specs.Bounds.{fresh_bound, bounds_of, value_of, low_of, high_of, Meets, Settled, undo, IsKept}
 use Rattle.lego_level.specs.Rising.{raised_or, current, IsOnWalk, Closes}
@@ -42,9 +41,9 @@ node_is bs (Some u) = value_is bs u
 
 pub settled_least : (bs : List Bound) (cs : List Constraint) → Settled (bounds_of bs) cs → IsLeast cs (values_of bs)
 settled_least bs cs s = record {
-    satisfies = satisfies (values_of bs) cs (λ c h. let k = s.holds c h in let l = node_is bs c.low.base in let g = node_is bs c.high.base in omega (arith, k, l, g));
-    least = λ w all u. let k = s.least w (meets w cs all) u in let e = value_is bs u in omega (arith, k, e);
-  }
+  satisfies = satisfies (values_of bs) cs (λ c h. let k = s.holds c h in let l = node_is bs c.low.base in let g = node_is bs c.high.base in omega (arith, k, l, g));
+  least = λ w all u. let k = s.least w (meets w cs all) u in let e = value_is bs u in omega (arith, k, e);
+}
 
 pub forces : (bs : List Bound) (cs : List Constraint) (u : ℕ) → Settled (bounds_of bs) cs → Exceeds cs u → Forces cs (bounds_of bs u).cause (bounds_of bs u).value
 forces bs cs u s over =
@@ -59,7 +58,7 @@ forces bs cs u s over =
       variable = u;
       least = least;
       listed = ⊎_elim {C = Contains cs (bounds_of bs u).cause} (λ k. k) (λ k. absurd (
-        let lo : low_of (bounds_of bs) (bounds_of bs u).cause ≡ 0 = ap (low_of (bounds_of bs)) k in omega (arith, lo, t, big))) x.known;
+          let lo : low_of (bounds_of bs) (bounds_of bs u).cause ≡ 0 = ap (low_of (bounds_of bs)) k in omega (arith, lo, t, big))) x.known;
       high = x.high;
       tight = omega (arith, t, l, g, h);
       value = e;
@@ -72,14 +71,18 @@ exceeds bs cs u s big = λ v all. let k = s.least v (meets v cs all) u in omega 
 -- the limit still holds where no raised value is over it
 pub still_within : (bs bs' : List Bound) (cs cs' : List Constraint) (d : ℕ → Option Raise) → Settled (bounds_of bs) cs → Settled (bounds_of bs') cs' → bounds_of bs' ≡ current (bounds_of bs) d
     → ((u : ℕ) (r : Raise) → d u ≡ Some r → r.bound.value ≤ 1000000) → CanBeSatisfiedWithin cs → CanBeSatisfiedWithin cs'
-still_within bs bs' cs cs' d s s' is low w = (values_of bs', (settled_least bs' cs' s').satisfies, λ u.
-    let e = value_is bs' u in
-    let k : (bounds_of bs' u).value ≡ (current (bounds_of bs) d u).value = ap (λ (m : ℕ → Bound). (m u).value) is in
-    ⊎_elim {C = get_or (values_of bs') u 0 ≤ 1000000}
+still_within bs bs' cs cs' d s s' is low w = (
+  values_of bs',
+  (settled_least bs' cs' s').satisfies,
+  λ u.
+      let e = value_is bs' u in
+      let k : (bounds_of bs' u).value ≡ (current (bounds_of bs) d u).value = ap (λ (m : ℕ → Bound). (m u).value) is in
+      ⊎_elim {C = get_or (values_of bs') u 0 ≤ 1000000}
       (λ n. let m : (current (bounds_of bs) d u).value ≡ (bounds_of bs u).value = ap (λ o. (raised_or (bounds_of bs u) o).value) n in
-        let l = s.least w.0 (meets w.0 cs w.1) u in let b = w.2 u in omega (arith, e, k, m, l, b))
+      let l = s.least w.0 (meets w.0 cs w.1) u in let b = w.2 u in omega (arith, e, k, m, l, b))
       (λ z. let m : (current (bounds_of bs) d u).value ≡ z.0.bound.value = ap (λ o. (raised_or (bounds_of bs u) o).value) z.1 in
-        let b = low u z.0 z.1 in omega (arith, e, k, m, b)) (option_cases (d u)))
+      let b = low u z.0 z.1 in omega (arith, e, k, m, b)) (option_cases (d u)),
+)
 
 -- a list and its reverse
 pub settled_reverse : (f : ℕ → Bound) (cs : List Constraint) → Settled f (reverse cs) → Settled f cs
@@ -103,8 +106,8 @@ kept_push n f g es es' hs hs' c h ise ish k s room undone =
     let re : reverse es' ≡ c ∷ reverse es = ap reverse ise ∙ reverse-append es (c ∷ []) in
     let rh : reverse hs' ≡ h ∷ reverse hs = ap reverse ish ∙ reverse-append hs (h ∷ []) in
     let s' : Settled g (c ∷ reverse es) = settled_same g (c ∷ es) (c ∷ reverse es)
-      (λ x y. ⊎_elim {C = Contains (c ∷ reverse es) x} (λ e. subst (λ z. Contains (c ∷ reverse es) z) (sym e) (contains_head c (reverse es))) (λ w. contains_tail c (reverse es) x (contains-reverse es x w)) (contains_cases c es x y))
-      (λ x y. ⊎_elim {C = Contains (c ∷ es) x} (λ e. subst (λ z. Contains (c ∷ es) z) (sym e) (contains_head c es)) (λ w. contains_tail c es x (reverse-contains es x w)) (contains_cases c (reverse es) x y)) s in
+    (λ x y. ⊎_elim {C = Contains (c ∷ reverse es) x} (λ e. subst (λ z. Contains (c ∷ reverse es) z) (sym e) (contains_head c (reverse es))) (λ w. contains_tail c (reverse es) x (contains-reverse es x w)) (contains_cases c es x y))
+    (λ x y. ⊎_elim {C = Contains (c ∷ es) x} (λ e. subst (λ z. Contains (c ∷ es) z) (sym e) (contains_head c es)) (λ w. contains_tail c es x (reverse-contains es x w)) (contains_cases c (reverse es) x y)) s in
     subst (λ z. IsKept n g z (reverse hs')) (sym re) (subst (λ z. IsKept n g (c ∷ reverse es) z) (sym rh) (kept_more n f g c (reverse es) h (reverse hs) k s' room undone))
 
 pub kept_start : (xs : List Bound) (es : List Constraint) (hs : List (List Change)) → xs ≡ [] → es ≡ [] → hs ≡ [] → IsKept (length xs) (bounds_of xs) (reverse es) (reverse hs)
@@ -169,10 +172,10 @@ pub refuses : (f : ℕ → Bound) (es : List Constraint) (added closing : Constr
     → IsClosedWalk closing.high.base cycle → ((x : Constraint) → Contains cycle x → IsOnWalk f d closing x) → IsCycle (es ++ added ∷ []) cycle × (CanBeSatisfied (es ++ added ∷ []) → ⊥)
 refuses f es added closing d cycle k walk on =
     let known : (x : Constraint) → Contains cycle x → IsKnown (es ++ added ∷ []) x = λ x h. ⊎_elim {C = IsKnown (es ++ added ∷ []) x}
-      (λ e. inl (subst (λ z. Contains (es ++ added ∷ []) z) (sym e) (head_or_last es added closing k.held)))
-      (λ z. ⊎_elim {C = IsKnown (es ++ added ∷ []) x}
-        (λ y. inl (subst (λ w. Contains (es ++ added ∷ []) w) (sym z.2) (head_or_last es added (current f d z.0).cause y)))
-        (λ y. inr (z.0, z.2 ∙ y)) (k.known z.0 z.1)) (on x h) in
+    (λ e. inl (subst (λ z. Contains (es ++ added ∷ []) z) (sym e) (head_or_last es added closing k.held)))
+    (λ z. ⊎_elim {C = IsKnown (es ++ added ∷ []) x}
+    (λ y. inl (subst (λ w. Contains (es ++ added ∷ []) w) (sym z.2) (head_or_last es added (current f d z.0).cause y)))
+    (λ y. inr (z.0, z.2 ∙ y)) (k.known z.0 z.1)) (on x h) in
     (record { from = closing.high.base; walk = walk; known = known }, λ s. cycle_excludes s.0 closing.high.base cycle (es ++ added ∷ []) walk known (meets s.0 (es ++ added ∷ []) s.1))
 
 pub kept_grown : (bs bs' : List Bound) (es : List Constraint) (hs : List (List Change)) → length bs ≤ length bs' → bounds_of bs' ≡ bounds_of bs

@@ -1,5 +1,5 @@
 -- Members of lists.
-use Rattle.std.proofs.Common.{◌≡◌, ℕ, ◌+◌, ◌<◌, suc, zero, ◌⊎◌, List, [], ◌∷◌, ◌++◌, length, get_or, Contains, reverse, refl, sym, ap, ◌∙◌, inl, inr, arith, rules}
+use Rattle.std.proofs.Common.{◌≡◌, suc, zero, ◌⊎◌, List, [], ◌∷◌, Contains, reverse, refl, sym, inl, inr, arith}
 use Rattle.std.specs.List.Sorted.{IsPermutation}
 use Rattle.std.proofs.lemmas.List.Sorted.{Contains-permutation, IsPermutation-sym, IsPermutation-reverse}
 

@@ -1,7 +1,7 @@
 -- Sets of constraints: the pairs that the rules see, cycles, and least values.
 use Rattle.std.specs.Prelude.{◌≡◌, ℕ, ◌<◌, ◌≤◌, ◌⊎◌, List, [], ◌∷◌, map, Option, Some, None, sum_by, get_or, Contains}
 use Rattle.std.specs.List.{AllByRecursion}
-use Rattle.lego_term.specs.Levels.{Assignment, LevelPair, Satisfies, SatisfiesAll, level_value, fixed_level, variable_level}
+use Rattle.lego_term.specs.Levels.{Assignment, LevelPair, SatisfiesAll, level_value, fixed_level, variable_level}
 use Rattle.lego_level.specs.declared.constraint.Constraint.{Constraint}
 
 -- a constraint as the rules see it

@@ -7,7 +7,7 @@ use Rattle.lego_level.specs.declared.bound.Bound.{Bound}
 use Rattle.lego_level.specs.declared.draft.Raise.{Raise}
 use Rattle.lego_level.specs.declared.draft.Draft.{Draft}
 use Rattle.lego_level.specs.declared.rise.Rise.{Rise}
-use Rattle.lego_level.specs.Bounds.{value_of, rank_of, low_of, high_of, Meets}
+use Rattle.lego_level.specs.Bounds.{rank_of, low_of, high_of, Meets}
 use Rattle.lego_level.specs.Graphs.{implied}
 
 unfoldable pub raise_of : Draft → ℕ → Option Raise

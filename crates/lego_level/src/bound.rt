@@ -1,9 +1,8 @@
 ghost use Rattle.std.specs.Prelude.{◌≡◌};
 ghost use Rattle.lego_level.specs.Bounds.{fresh_bound};
 
-use lego_term::Level;
-
 use crate::constraint::Constraint;
+use lego_term::Level;
 
 /// A lower bound of a variable, and the constraint that forces it. The rank is above that of the
 /// variable from which the constraint comes, so a walk back along causes ends at the zero node.

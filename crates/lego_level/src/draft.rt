@@ -2,10 +2,9 @@
 ghost use Rattle.std.specs.Prelude.{◌≡◌, ℕ, Some, None, OnOk};
 ghost use Rattle.lego_level.specs.Rising.{raise_of, IsTouched};
 
+use crate::bound::Bound;
 use std::alloc::{AllocError, Global};
 use std::collections::HashMap;
-
-use crate::bound::Bound;
 
 /// A raised bound, and whether the constraints that leave its variable were looked at.
 #[derive(Debug, Clone, Copy, PartialEq, Eq)]

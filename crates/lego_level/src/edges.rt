@@ -3,10 +3,9 @@ ghost use Rattle.std.specs.Prelude.{◌≡◌, ◌<◌, ◌++◌, ℕ, List, [],
 ghost use Rattle.lego_level.specs.declared.constraint.Constraint.{Constraint};
 ghost use Rattle.lego_level.specs.Leaving.{leaving};
 
+use crate::constraint::Constraint;
 use std::alloc::{AllocError, Global};
 use std::marker::Model;
-
-use crate::constraint::Constraint;
 
 /// Constraints that leave one variable, in the order in which they were added.
 #[derive(Drop)]

@@ -1,10 +1,9 @@
 //! Why constraints are refused.
 ghost use Rattle.std.specs.Prelude.{◌≡◌};
 
-use lego_term::List;
-
 use crate::constraint::Constraint;
 use crate::solver::InsertFault;
+use lego_term::List;
 
 /// Why a graph did not take constraints in.
 #[derive(Debug, Drop)]

@@ -3,12 +3,11 @@ ghost use Rattle.std.specs.Prelude.{◌≡◌, ◌≤◌, ◌<◌, ◌++◌, [],
 ghost use Rattle.lego_level.specs.Graphs.{CanBeSatisfiedWithin, HasVariablesBelow, IsLeast};
 ghost use Rattle.lego_level.specs.Refusals.{IsGraphFault};
 
-use std::alloc::{AllocError, Global};
-use std::marker::Model;
-
 use crate::constraint::Constraint;
 use crate::fault::GraphFault;
 use crate::solver::Solver;
+use std::alloc::{AllocError, Global};
+use std::marker::Model;
 
 /// Constraints that can be satisfied with values up to 1,000,000, which contracts see as their
 /// list. It keeps their least solution, so a further constraint only raises what must rise, and
@@ -111,10 +110,7 @@ fn add_all(alloc: Global, solver: &mut Solver, more: &[Constraint]) -> Result<()
     match over {
         Some(variable) => {
             let (constraint, needed) = solver.forced(variable);
-            Err(GraphFault::LevelTooBig {
-                constraint,
-                needed,
-            })
+            Err(GraphFault::LevelTooBig { constraint, needed })
         }
         None => Ok(()),
     }

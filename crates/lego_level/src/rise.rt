@@ -6,13 +6,12 @@ ghost use Rattle.lego_level.specs.Bounds.{bounds_of, value_of, rank_of, low_of, 
 ghost use Rattle.lego_level.specs.Leaving.{leaving};
 ghost use Rattle.lego_level.specs.Rising.{raise_of, current, is_done, IsTouched, IsRaisedTo, Visited, Scans, Closes, RisesOn};
 
-use std::alloc::{AllocError, Global};
-
 use crate::bound::{Bound, fresh};
 use crate::constraint::Constraint;
 use crate::draft::{Draft, Raise};
 use crate::edges::Edges;
 use crate::queue::Queue;
+use std::alloc::{AllocError, Global};
 
 /// What rises, what waits for its turn, and a limit that was found broken.
 #[derive(Drop)]
@@ -76,10 +75,7 @@ fn raise_to(
         cause: constraint,
         rank,
     };
-    let raise = Raise {
-        bound,
-        done: false,
-    };
+    let raise = Raise { bound, done: false };
     rise.draft.put(to, raise)?;
     rise.queue.push(value - kept_at(bounds, to).value, to)
 }
@@ -96,7 +92,10 @@ fn visit(
     requires { (u : ℕ) → (bounds_of bounds.now u).value ≤ (current (bounds_of bounds.now) (raise_of rise.old.draft) u).value }
     ensures { IfOk result (Visited (bounds_of bounds.now) added constraint bound rise.old rise.new) }
 {
-    let needed = bound.value.checked_add(u64::from(constraint.low.plus)).ok_or(AllocError)?;
+    let needed = bound
+        .value
+        .checked_add(u64::from(constraint.low.plus))
+        .ok_or(AllocError)?;
     let plus = u64::from(constraint.high.plus);
     let Some(to) = constraint.high.base else {
         if needed > plus {
@@ -194,13 +193,22 @@ pub fn rise_by(
         (Closes (bounds_of bounds.now) edges.now added (raise_of r.draft))) }
 {
     let (value, rank) = node_at(bounds, added.low.base);
-    let needed = value.checked_add(u64::from(added.low.plus)).ok_or(AllocError)?;
+    let needed = value
+        .checked_add(u64::from(added.low.plus))
+        .ok_or(AllocError)?;
     let mut rise = Rise {
         draft: Draft::new(alloc),
         queue: Queue::new(alloc),
         broken: None,
     };
-    raise_to(bounds, added, head, needed - u64::from(added.high.plus), rank, &mut rise)?;
+    raise_to(
+        bounds,
+        added,
+        head,
+        needed - u64::from(added.high.plus),
+        rank,
+        &mut rise,
+    )?;
     let closing = run(edges, bounds, added, &mut rise)?;
     let Rise {
         draft,

@@ -6,11 +6,6 @@ ghost use Rattle.lego_level.specs.Bounds.{bounds_of, low_of, high_of};
 ghost use Rattle.lego_level.specs.Faults.{IsInsertFault, IsUnsatisfied};
 ghost use Rattle.lego_level.specs.declared.constraint.Constraint.{Constraint};
 
-use std::alloc::{AllocError, Global};
-use std::marker::Model;
-
-use lego_term::List;
-
 use crate::bound::{Bound, Change};
 use crate::constraint::Constraint;
 use crate::cycle::walk_back;
@@ -18,6 +13,9 @@ use crate::draft::Draft;
 use crate::edges::Edges;
 use crate::rise::{Risen, kept_at, node_at, rise_by};
 use crate::store::{changes_of, keep, restore};
+use lego_term::List;
+use std::alloc::{AllocError, Global};
+use std::marker::Model;
 
 /// Why a constraint was not taken in.
 #[derive(Debug, Drop)]
@@ -110,7 +108,12 @@ impl Solver {
     }
 
     /// Takes in a constraint that is not satisfied, and comes to another variable than it leaves.
-    fn raise(&mut self, alloc: Global, added: Constraint, head: u32) -> Result<Option<u32>, InsertFault>
+    fn raise(
+        &mut self,
+        alloc: Global,
+        added: Constraint,
+        head: u32,
+    ) -> Result<Option<u32>, InsertFault>
         requires head { added.high.base ≡ Some head }
         requires apart { added.low.base ≡ Some head → ⊥ }
         requires over { IsUnsatisfied self.old added }
@@ -119,7 +122,13 @@ impl Solver {
         ensures refused { IfErr result (IsInsertFault (self.old ++ added ∷ [])) }
         ensures unchanged { OnErr result (self.new ≡ self.old) }
     {
-        let Risen { draft, closing } = rise_by(alloc, &self.edges, self.bounds.as_slice(), added, head)?;
+        let Risen { draft, closing } = rise_by(
+            alloc,
+            &self.edges,
+            self.bounds.as_slice(),
+            added,
+            head,
+        )?;
         if let Some(closing) = closing {
             let cycle = walk_back(alloc, self.bounds.as_slice(), &draft, closing)?;
             return Err(InsertFault::Cycle(cycle));
@@ -152,8 +161,12 @@ fn is_satisfied(bounds: &[Bound], constraint: Constraint) -> Result<bool, AllocE
 {
     let (low, _) = node_at(bounds, constraint.low.base);
     let (high, _) = node_at(bounds, constraint.high.base);
-    let low = low.checked_add(u64::from(constraint.low.plus)).ok_or(AllocError)?;
-    let high = high.checked_add(u64::from(constraint.high.plus)).ok_or(AllocError)?;
+    let low = low
+        .checked_add(u64::from(constraint.low.plus))
+        .ok_or(AllocError)?;
+    let high = high
+        .checked_add(u64::from(constraint.high.plus))
+        .ok_or(AllocError)?;
     Ok(low <= high)
 }
 

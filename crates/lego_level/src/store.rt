@@ -5,13 +5,11 @@ ghost use Rattle.lego_level.specs.Rising.{raise_of, current, IsTouched};
 ghost use Rattle.lego_level.specs.declared.bound.Change.{Change};
 ghost use Rattle.lego_level.specs.declared.draft.Raise.{Raise};
 
-use std::alloc::{AllocError, Global};
-
-use lego_term::List;
-
 use crate::bound::{Bound, Change, fresh};
 use crate::draft::Draft;
 use crate::rise::kept_at;
+use lego_term::List;
+use std::alloc::{AllocError, Global};
 
 /// The greatest least value that a variable may have.
 pub const MAX_VALUE: u64 = 1_000_000;
@@ -38,7 +36,11 @@ fn write(bounds: &mut Vec<Bound>, variable: u32, bound: Bound)
 }
 
 /// The changes that will keep what rose, with room for them.
-pub fn changes_of(alloc: Global, bounds: &mut Vec<Bound>, draft: &Draft) -> Result<List<Change>, AllocError>
+pub fn changes_of(
+    alloc: Global,
+    bounds: &mut Vec<Bound>,
+    draft: &Draft,
+) -> Result<List<Change>, AllocError>
     ensures longer { length bounds.old.items ≤ length bounds.new.items }
     ensures same { bounds_of bounds.new.items ≡ bounds_of bounds.old.items }
     ensures before { IfOk result (λ h. (x : Change) → Contains h x → x.before ≡ bounds_of bounds.old.items x.variable) }

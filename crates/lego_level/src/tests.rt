@@ -2,20 +2,15 @@
 ghost use Rattle.std.specs.Prelude.{◌≡◌, ◌<◌, Some, None};
 ghost use Rattle.lego_level.specs.Graphs.{IsVariableBelow};
 
+use crate::{Constraint, Graph, GraphFault};
+use lego_term::Level;
 use std::alloc::Global;
 use std::test::Fail;
-
-use lego_term::Level;
-
-use crate::{Constraint, Graph, GraphFault};
 
 fn fixed(plus: u32) -> Level
     ensures { result ≡ record { base = None; plus = plus } }
 {
-    Level {
-        base: None,
-        plus,
-    }
+    Level { base: None, plus }
 }
 
 fn variable(number: u32, plus: u32) -> Level
@@ -111,5 +106,79 @@ fn a_refusal_and_a_cut_go_back(rt: HostRuntime) -> Result<(), Fail> {
     }
     assert!(rt; graph.constraints() == [first].as_slice());
     assert!(rt; graph.extend(alloc, &[back]).is_ok());
+    Ok(())
+}
+
+/// A level over three variables, picked by a number below 12.
+fn pick_level(number: u64) -> Level
+    ensures { IsVariableBelow 3 result.base }
+{
+    let plus = (number % 3) as u32;
+    match number / 3 {
+        0 => fixed(plus),
+        1 => variable(0, plus),
+        2 => variable(1, plus),
+        _ => variable(2, plus),
+    }
+}
+
+/// A constraint over three variables, picked by a number.
+fn pick(number: u64) -> Constraint
+    ensures low { IsVariableBelow 3 result.low.base }
+    ensures high { IsVariableBelow 3 result.high.base }
+{
+    at_most(pick_level(number % 12), pick_level(number / 12 % 12))
+}
+
+fn value(level: Level, values: [u64; 3]) -> u64 {
+    let base = match level.base {
+        None => 0,
+        Some(number) => values.get(number as usize).copied().unwrap_or(0),
+    };
+    base.saturating_add(u64::from(level.plus))
+}
+
+/// The least of the values up to 8 that satisfy the constraints, by trying all.
+fn try_all(constraints: &[Constraint]) -> Option<[u64; 3]> {
+    let mut best: Option<[u64; 3]> = None;
+    for number in 0..729u64 {
+        let values = [number / 81, number / 9 % 9, number % 9];
+        if constraints
+            .iter()
+            .all(|c| value(c.low, values) <= value(c.high, values))
+        {
+            let [a, b, c] = best.unwrap_or(values);
+            best = Some([a.min(values[0]), b.min(values[1]), c.min(values[2])]);
+        }
+    }
+    best
+}
+
+#[test]
+fn small_graphs_agree_with_a_plain_search(rt: HostRuntime) -> Result<(), Fail> {
+    let alloc = rt.alloc();
+    let mut state: u64 = 12345;
+    for turn in 0..300 {
+        state = state
+            .wrapping_mul(6_364_136_223_846_793_005)
+            .wrapping_add(1_442_695_040_888_963_407);
+        let number = state >> 20;
+        let constraints = [
+            pick(number),
+            pick(number / 144),
+            pick(number / 20_736),
+            pick(number / 2_985_984),
+        ];
+        let mut graph = Graph::new(alloc);
+        let outcome = graph.extend(alloc, &constraints);
+        match try_all(&constraints) {
+            None => assert!(rt; matches!(outcome, Err(GraphFault::Cycle(_))), "at {turn}"),
+            Some(best) => {
+                assert!(rt; outcome.is_ok(), "at {turn}");
+                let values = graph.least(alloc, 3)?;
+                assert!(rt; values.as_slice() == best.as_slice(), "at {turn}");
+            }
+        }
+    }
     Ok(())
 }

@@ -1,4 +1,4 @@
-use Rattle.std.proofs.Common.{◌≡◌, ℕ, [], ◌+◌, ◌-◌, length, get_or, vec_len}
+use Rattle.std.proofs.Common.{◌≡◌, ℕ, [], ◌+◌, ◌-◌, length, get_or}
 use Rattle.lego_level.proofs.edges.grow.Given as goal
 
 abbrev pub invariant-loop-alloc : goal.invariant-loop-alloc

@@ -5,6 +5,6 @@ use Rattle.lego_level.proofs.graph.add_all.Given as goal
 
 abbrev pub invariant-loop-constraint : goal.invariant-loop-constraint
 invariant-loop-constraint l = record {
-    taken : l.solver ≡ l.fn.solver ++ take l.constraint-index l.more;
-    over : MatchOption l.over (CanBeSatisfiedWithin l.solver) (Exceeds l.solver);
-  }
+  taken : l.solver ≡ l.fn.solver ++ take l.constraint-index l.more;
+  over : MatchOption l.over (CanBeSatisfiedWithin l.solver) (Exceeds l.solver);
+}

@@ -1,5 +1,4 @@
-use Rattle.std.proofs.Common.{rules, ◌≡◌, get_or}
-use Rattle.std.proofs.lemmas.Grind.{common_steps}
+use Rattle.std.proofs.Common.{rules}
 use Rattle.lego_level.specs.Bounds.{bounds_of}
 use Rattle.lego_level.proofs.rise.kept_at.Goals as goal
 

@@ -1,4 +1,4 @@
-use Rattle.std.proofs.Common.{◌≡◌, ◌+◌, ◌<◌, ◌∷◌, List, length, get_or, drop, true, false, sym, ap, ◌∙◌, subst, arith, Bool}
+use Rattle.std.proofs.Common.{get_or, true, false, ◌∙◌, subst, arith}
 use Rattle.lego_level.specs.Bounds.{bounds_of}
 use Rattle.lego_level.specs.Leaving.{leaving}
 use Rattle.lego_level.specs.Rising.{raise_of, Visited}
@@ -18,9 +18,9 @@ returns-then-branch-clause-risen c =
     let item = get_or c.leaving-constraint-items.result.now i blank in
     let m = leaving_member c.args.edges.now c.args.from item it.1 in
     let v : Visited (bounds_of c.args.bounds.now) c.args.added item c.current_at-bound.result c.loop-constraint.rise c.visit.new.rise true =
-      subst (λ b. Visited (bounds_of c.args.bounds.now) c.args.added item c.current_at-bound.result c.loop-constraint.rise c.visit.new.rise b) c.if-branch.true c.in_ok-visit.ensures in
+    subst (λ b. Visited (bounds_of c.args.bounds.now) c.args.added item c.current_at-bound.result c.loop-constraint.rise c.visit.new.rise b) c.if-branch.true c.in_ok-visit.ensures in
     close_visit (bounds_of c.args.bounds.now) c.args.edges.now c.args.added c.loop-constraint.rise c.visit.new.rise c.args.from c.current_at-bound.result _ _ item
-      c.loop-constraint.invariant.scans it.0 c.loop-constraint.invariant.bound m.0 m.1 v
+    c.loop-constraint.invariant.scans it.0 c.loop-constraint.invariant.bound m.0 m.1 v
 
 pub loop-constraint-preserved : goal.loop-constraint-preserved
 loop-constraint-preserved c =
@@ -29,8 +29,8 @@ loop-constraint-preserved c =
     let item = get_or c.leaving-constraint-items.result.now i blank in
     let m = leaving_member c.args.edges.now c.args.from item it.1 in
     let v : Visited (bounds_of c.args.bounds.now) c.args.added item c.current_at-bound.result c.loop-constraint.rise c.visit.new.rise false =
-      subst (λ b. Visited (bounds_of c.args.bounds.now) c.args.added item c.current_at-bound.result c.loop-constraint.rise c.visit.new.rise b) c.if-branch.false c.in_ok-visit.ensures in
+    subst (λ b. Visited (bounds_of c.args.bounds.now) c.args.added item c.current_at-bound.result c.loop-constraint.rise c.visit.new.rise b) c.if-branch.false c.in_ok-visit.ensures in
     let r = scan_visit (bounds_of c.args.bounds.now) c.args.edges.now c.args.added c.loop-constraint.rise c.visit.new.rise c.args.from c.current_at-bound.result _ _ item
-      c.requires.settled c.loop-constraint.invariant.scans it.0 c.loop-constraint.invariant.bound m.0 m.1 v in
+    c.requires.settled c.loop-constraint.invariant.scans it.0 c.loop-constraint.invariant.bound m.0 m.1 v in
     let w = r.3 in let w' = c.loop-constraint.invariant.waiting in
     record { scans = r.0; bound = r.1; done = λ u. r.2 u ∙ c.loop-constraint.invariant.done u; waiting = omega (arith, w, w') }

@@ -1,4 +1,4 @@
-use Rattle.std.proofs.Common.{◌≡◌, ◌+◌, ◌<◌, ℕ, List, length, get_or, take, Contains, refl, sym, ap, ◌∙◌, arith, subst}
+use Rattle.std.proofs.Common.{◌≡◌, ◌+◌, ℕ, length, get_or, take, Contains, refl, sym, ap, ◌∙◌, arith, subst}
 use Rattle.std.proofs.lemmas.List.{take_all}
 use Rattle.lego_level.specs.Bounds.{bounds_of}
 use Rattle.lego_level.specs.declared.bound.Bound.{Bound}
@@ -19,7 +19,7 @@ loop-variable-preserved c =
       same = same;
       longer = omega (arith, l1, l2);
       before = before_more f c.loop-variable.changes.items c.push.new.self.items x c.in_ok-push.ensures.items
-        (c.kept_at-before.ensures ∙ (ap (λ xs. bounds_of xs v) c.as_slice.ensures.value ∙ ap (λ (m : ℕ → Bound). m v) same)) inv.before;
+          (c.kept_at-before.ensures ∙ (ap (λ xs. bounds_of xs v) c.as_slice.ensures.value ∙ ap (λ (m : ℕ → Bound). m v) same)) inv.before;
       room = room_more f c.loop-variable.changes.items c.push.new.self.items x c.in_ok-push.ensures.items (length c.loop-variable.bounds.items) (length c.reserve.new.bounds.items) l1 c.in_ok-reserve.ensures.room inv.room;
       all = all_more f c.loop-variable.changes.items c.push.new.self.items x c.in_ok-push.ensures.items (take i T) (take (i + 1) T) v it.2 refl inv.all;
     }

@@ -1,4 +1,4 @@
-use Rattle.std.proofs.Common.{◌≡◌, ◌+◌, length, sym, ap, ◌∙◌, arith, ◌++◌, ◌∷◌, [], subst}
+use Rattle.std.proofs.Common.{ap, ◌∙◌, arith}
 use Rattle.std.proofs.lemmas.Grind.{common_steps}
 use Rattle.lego_level.specs.Bounds.{bounds_of, fresh_bound}
 use Rattle.lego_level.proofs.StoreLemmas.{bounds_push}

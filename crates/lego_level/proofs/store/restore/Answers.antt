@@ -1,6 +1,4 @@
-use Rattle.std.proofs.Common.{◌≡◌, ◌+◌, ◌<◌, ◌∷◌, List, length, get_or, drop, Contains, refl, sym, ap, ◌∙◌, arith, subst}
-use Rattle.lego_level.specs.Bounds.{bounds_of}
-use Rattle.lego_level.specs.declared.bound.Change.{Change}
+use Rattle.std.proofs.Common.{get_or, refl, arith}
 use Rattle.lego_level.proofs.StoreLemmas.{item_rest, blank_change}
 use Rattle.lego_level.proofs.store.restore.Goals as goal
 

@@ -1,4 +1,4 @@
-use Rattle.std.proofs.Common.{◌≡◌, sym, subst}
+use Rattle.std.proofs.Common.{sym, subst}
 use Rattle.lego_level.specs.Graphs.{CanBeSatisfiedWithin}
 use Rattle.lego_level.proofs.GraphLemmas.{within_take}
 use Rattle.lego_level.proofs.graph.Graph.cut_to.Goals as goal

@@ -1,6 +1,5 @@
-use Rattle.std.proofs.Common.{◌≡◌, ◌+◌, ◌∙◌, ◌∷◌, [], sym, ap, subst, length, arith}
+use Rattle.std.proofs.Common.{◌≡◌, ◌∙◌, ap, subst, length, arith}
 use Rattle.std.proofs.lemmas.List.{length_push}
-use Rattle.lego_term.specs.Levels.{Assignment}
 use Rattle.lego_level.specs.Graphs.{IsLeast, CanBeSatisfied}
 use Rattle.lego_level.proofs.GraphLemmas.{least_list, values_more}
 use Rattle.lego_level.proofs.graph.Graph.least.Goals as goal
@@ -12,7 +11,7 @@ loop-variable-preserved c =
     record {
       len = omega (arith, l, k);
       values = values_more c.args.self.now c.loop-variable.values.items c.push.new.self.items c.loop-variable.variable c.value.result c.in_ok-push.ensures.items l
-        (let v = c.value.ensures in (v.0, subst (λ z. IsLeast z v.0) c.self.view_is v.1, v.2)) inv.values;
+          (let v = c.value.ensures in (v.0, subst (λ z. IsLeast z v.0) c.self.view_is v.1, v.2)) inv.values;
     }
 
 pub returns-clause-least : goal.returns-clause-least

@@ -5,6 +5,6 @@ use Rattle.lego_level.proofs.graph.Graph.least.Given as goal
 
 abbrev pub invariant-loop-variable : goal.invariant-loop-variable
 invariant-loop-variable l = record {
-    len : length l.values.items ≡ l.variable;
-    values : (u : ℕ) → u < l.variable → (v : Assignment) × IsLeast l.self v × (get_or v u 0 ≡ get_or l.values.items u 0);
-  }
+  len : length l.values.items ≡ l.variable;
+  values : (u : ℕ) → u < l.variable → (v : Assignment) × IsLeast l.self v × (get_or v u 0 ≡ get_or l.values.items u 0);
+}

@@ -1,7 +1,6 @@
-use Rattle.std.proofs.Common.{subst, sym, ◌≡◌, ◌⊎◌, Contains, ◌∷◌, List, ℕ}
+use Rattle.std.proofs.Common.{subst, sym, Contains}
 use Rattle.std.proofs.lemmas.List.Sorted.{Contains-permutation, IsPermutation-sym}
 use Rattle.std.proofs.lemmas.Option.{IfSome_then}
-use Rattle.std.specs.List.Sorted.{IsPermutation}
 use Rattle.lego_level.proofs.MemberLemmas.{contains_tail, contains_cases}
 use Rattle.lego_level.proofs.queue.Queue.pop.Goals as goal
 

@@ -1,4 +1,4 @@
-use Rattle.std.proofs.Common.{◌≡◌, ◌-◌, ◌++◌, [], sym, ap, ◌∙◌, refl, subst, get_or, length, take, reverse, Contains, arith}
+use Rattle.std.proofs.Common.{◌≡◌, ◌-◌, [], sym, ap, ◌∙◌, refl, subst, length, take, reverse, Contains, arith}
 use Rattle.std.proofs.lemmas.Grind.{common_steps}
 use Rattle.std.proofs.lemmas.List.{append-nil, nil_from_length}
 use Rattle.lego_level.specs.Bounds.{bounds_of, undo, IsKept}
