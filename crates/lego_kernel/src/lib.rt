@@ -1,0 +1,11 @@
+//! Contexts of the Extended Calculus of Constructions: lists of entries that are valid by
+//! the rules. So far an entry is an assumption whose type is `Prop` or a name.
+#![tactic(auto)]
+
+mod context;
+mod entry;
+mod fault;
+
+pub use context::{Context, MAX_ENTRIES};
+pub use entry::{At, Entry};
+pub use fault::{Counted, TypeFault};

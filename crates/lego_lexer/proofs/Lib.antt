@@ -1,0 +1,14 @@
+pub mod SpellingLemmas
+pub mod SliceLemmas
+pub mod CommentLemmas
+pub mod GapLemmas
+pub mod CommandLemmas
+pub mod TokenLemmas
+pub mod ScanLemmas
+pub mod LexLemmas
+pub mod UniqueGaps
+pub mod UniqueTokens
+pub mod UniqueCuts
+pub mod Scripts
+pub mod Ranges
+mod Sanity

@@ -1,0 +1,148 @@
+//! The longest token at an index.
+ghost use Rattle.std.specs.Prelude.{◌≡◌, ◌<◌, ◌≤◌, ◌+◌, drop, length, min, slice_index, IsTrue, IsFalse, MatchResult};
+ghost use Rattle.lego_lexer.specs.Bytes.{begins_name, goes_on_in_name, is_digit, BeginsToken};
+ghost use Rattle.lego_lexer.specs.Tokens.{FaultAt, number_value};
+ghost use Rattle.lego_lexer.specs.Scanned.{IsRunEnd, IsScanned};
+
+use crate::comment::begins_with;
+use crate::spelling::{symbol, word};
+use crate::token::{LexFault, Symbol, TokenKind};
+use lego_base::Place;
+
+/// The most bytes of a name.
+const MAX_NAME: usize = 255;
+
+/// The greatest numeral.
+const MAX_NUMBER: u32 = 1_000_000;
+
+/// A token of bytes, and the index behind it.
+#[derive(Clone, Copy)]
+pub struct Scanned {
+    pub kind: TokenKind,
+    pub to: usize,
+}
+
+fn begins_name(byte: u8) -> bool
+    ensures { result ≡ begins_name byte }
+{
+    byte.is_ascii_alphabetic() || byte == b'_'
+}
+
+fn goes_on_in_name(byte: u8) -> bool
+    ensures { result ≡ goes_on_in_name byte }
+{
+    begins_name(byte) || is_digit(byte) || byte == b'\''
+}
+
+fn is_digit(byte: u8) -> bool
+    ensures { result ≡ is_digit byte }
+{
+    byte.is_ascii_digit()
+}
+
+/// The longest token at `at`, which stands at `place`; there is neither a blank nor a comment.
+pub fn scan(bytes: &[u8], at: usize, place: Place) -> Result<Scanned, LexFault>
+    requires within { at < length bytes.now }
+    requires begins { BeginsToken (drop at bytes.now) }
+    ensures { MatchResult result (IsScanned bytes.now at) (FaultAt place (drop at bytes.now)) }
+{
+    if begins_name(bytes[at]) {
+        return scan_name(bytes, at, place);
+    }
+    if is_digit(bytes[at]) {
+        return scan_number(bytes, at, place);
+    }
+    scan_symbol(bytes, at, place)
+}
+
+/// A name or a reserved word.
+fn scan_name(bytes: &[u8], at: usize, place: Place) -> Result<Scanned, LexFault>
+    requires within { at < length bytes.now }
+    requires first { IsTrue (begins_name (slice_index bytes.now at)) }
+    requires begins { BeginsToken (drop at bytes.now) }
+    ensures { MatchResult result (IsScanned bytes.now at) (FaultAt place (drop at bytes.now)) }
+{
+    let to = name_end(bytes, at);
+    let text = &bytes[at..to];
+    if let Some(word) = word(text) {
+        let kind = TokenKind::Word(word);
+        return Ok(Scanned { kind, to });
+    }
+    if text.len() > MAX_NAME {
+        return Err(LexFault::LongName { place });
+    }
+    let kind = TokenKind::Name;
+    Ok(Scanned { kind, to })
+}
+
+fn name_end(bytes: &[u8], at: usize) -> usize
+    requires { at ≤ length bytes.now }
+    ensures { IsRunEnd goes_on_in_name bytes.now at result }
+{
+    let mut to = at;
+    while to < bytes.len() && goes_on_in_name(bytes[to]) {
+        to += 1;
+    }
+    to
+}
+
+/// A numeral.
+fn scan_number(bytes: &[u8], at: usize, place: Place) -> Result<Scanned, LexFault>
+    requires within { at < length bytes.now }
+    requires first { IsTrue (is_digit (slice_index bytes.now at)) }
+    requires begins { BeginsToken (drop at bytes.now) }
+    ensures { MatchResult result (IsScanned bytes.now at) (FaultAt place (drop at bytes.now)) }
+{
+    let to = number_end(bytes, at);
+    let value = number_value(&bytes[at..to]);
+    if value > MAX_NUMBER {
+        return Err(LexFault::BigLevel { place });
+    }
+    let kind = TokenKind::Number(value);
+    Ok(Scanned { kind, to })
+}
+
+fn number_end(bytes: &[u8], at: usize) -> usize
+    requires { at ≤ length bytes.now }
+    ensures { IsRunEnd is_digit bytes.now at result }
+{
+    let mut to = at;
+    while to < bytes.len() && is_digit(bytes[to]) {
+        to += 1;
+    }
+    to
+}
+
+/// The value of digits, or a greater number than the greatest numeral.
+fn number_value(digits: &[u8]) -> u32
+    ensures { result ≡ min (number_value digits.now) 1000001 }
+{
+    let mut value = 0;
+    for digit in digits {
+        let digit = u32::from(digit.saturating_sub(b'0'));
+        value = (10 * value + digit).min(MAX_NUMBER + 1);
+    }
+    value
+}
+
+/// A symbol.
+fn scan_symbol(bytes: &[u8], at: usize, place: Place) -> Result<Scanned, LexFault>
+    requires within { at < length bytes.now }
+    requires no_name { IsFalse (begins_name (slice_index bytes.now at)) }
+    requires no_number { IsFalse (is_digit (slice_index bytes.now at)) }
+    requires begins { BeginsToken (drop at bytes.now) }
+    ensures { MatchResult result (IsScanned bytes.now at) (FaultAt place (drop at bytes.now)) }
+{
+    if begins_with(bytes, at, b'-', b'>') {
+        let kind = TokenKind::Symbol(Symbol::Arrow);
+        return Ok(Scanned { kind, to: at + 2 });
+    }
+    let byte = bytes[at];
+    match symbol(byte) {
+        Some(symbol) => {
+            let kind = TokenKind::Symbol(symbol);
+            Ok(Scanned { kind, to: at + 1 })
+        }
+        None => Err(LexFault::BadByte { place, byte }),
+    }
+}

@@ -1,0 +1,5 @@
+pub mod ReadingLemmas
+pub mod TextLemmas
+pub mod BindingLemmas
+pub mod BindAllLemmas
+pub mod StepLemmas
