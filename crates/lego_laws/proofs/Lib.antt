@@ -1,0 +1,12 @@
+pub mod Subst
+pub mod Parallel
+pub mod CommonReducts
+pub mod Mapping
+pub mod Below
+pub mod Head
+pub mod Renaming
+pub mod Inversion
+pub mod TypedSteps
+pub mod Rules
+pub mod Entries
+pub mod TypingLaws
