@@ -1,4 +1,4 @@
--- A head form keeps its form in every step.
+-- Head forms are below each other exactly by their parts.
 use Rattle.std.proofs.Common.{◌≡◌, ℕ, Option, Some, None, refl, ap, option_map, arith}
 use Rattle.lego_term.specs.Trees.{Term, Var, Const, Prop, Univ, Pi, Lam, App, Sigma, Pair, Fst, Snd}
 use Rattle.lego_laws.specs.Parallel.{TermBodies, ParallelStep, p_var, p_const, p_prop, p_univ, p_pi, p_lam, p_app, p_sigma, p_pair, p_fst, p_snd, p_beta, p_first, p_second, p_unfold, Star, stop, go}
@@ -7,76 +7,8 @@ use Rattle.lego_term.specs.Below.{Below}
 use Rattle.lego_term.specs.Sequences.{head_step}
 use Rattle.lego_laws.specs.HeadForms.{IsHeadForm, PartsBelow, at_var, at_const, at_prop, at_prop_univ, at_univ, at_pi, at_lam, at_app, at_sigma, at_pair, at_fst, at_snd, HeadFormsCompare}
 use Rattle.lego_laws.specs.Cumulativity.{ByForm}
+use Rattle.lego_laws.proofs.Stuck.{Kept, kept}
 use Rattle.lego_laws.proofs.Below.{meets, convert_joined, below_of, under-below}
-
--- what stands at the function of a head form, and at the operand of a projection
-abbrev IsLam : Term → Type 0
-IsLam (Lam tt a m) = Unit {0}
-IsLam _ = ⊥
-
-abbrev IsPair : Term → Type 0
-IsPair (Pair tt a c m n) = Unit {0}
-IsPair _ = ⊥
-
-under_none : (f : Term → Term) (o : Option Term) → option_map f o ≡ None → o ≡ None
-under_none f None e = refl
-under_none f (Some t) e = cc
-
-app_stuck : (b : TermBodies) (m n : Term) → IsHeadForm b (App tt m n) → IsHeadForm b m × (IsLam m → ⊥)
-app_stuck b (Lam tt a m) n e = cc
-app_stuck b m n e = (under_none (λ f. App tt f n) (head_step b m) e, λ h. h)
-
-app_stands : (b : TermBodies) (m n : Term) → IsHeadForm b m → (IsLam m → ⊥) → IsHeadForm b (App tt m n)
-app_stands b (Lam tt a m) n e h = absurd (h tt)
-app_stands b m n e h = ap (option_map (λ f. App tt f n)) e
-
-fst_stuck : (b : TermBodies) (m : Term) → IsHeadForm b (Fst m) → IsHeadForm b m × (IsPair m → ⊥)
-fst_stuck b (Pair tt a c m n) e = cc
-fst_stuck b m e = (under_none Fst (head_step b m) e, λ h. h)
-
-fst_stands : (b : TermBodies) (m : Term) → IsHeadForm b m → (IsPair m → ⊥) → IsHeadForm b (Fst m)
-fst_stands b (Pair tt a c m n) e h = absurd (h tt)
-fst_stands b m e h = ap (option_map Fst) e
-
-snd_stuck : (b : TermBodies) (m : Term) → IsHeadForm b (Snd m) → IsHeadForm b m × (IsPair m → ⊥)
-snd_stuck b (Pair tt a c m n) e = cc
-snd_stuck b m e = (under_none Snd (head_step b m) e, λ h. h)
-
-snd_stands : (b : TermBodies) (m : Term) → IsHeadForm b m → (IsPair m → ⊥) → IsHeadForm b (Snd m)
-snd_stands b (Pair tt a c m n) e h = absurd (h tt)
-snd_stands b m e h = ap (option_map Snd) e
-
--- a step from a head form is made in its parts, and leads to a head form
-record Kept (b : TermBodies) (t u : Term) : Type 0 where
-  stays : IsHeadForm b u
-  no_lam : (IsLam t → ⊥) → IsLam u → ⊥
-  no_pair : (IsPair t → ⊥) → IsPair u → ⊥
-
-kept : {b : TermBodies} {t u : Term} → ParallelStep b t u → IsHeadForm b t → Kept b t u
-kept p_var e = record { stays = refl; no_lam = λ h. h; no_pair = λ h. h }
-kept p_const e = record { stays = e; no_lam = λ h. h; no_pair = λ h. h }
-kept p_prop e = record { stays = refl; no_lam = λ h. h; no_pair = λ h. h }
-kept p_univ e = record { stays = refl; no_lam = λ h. h; no_pair = λ h. h }
-kept (p_pi p q) e = record { stays = refl; no_lam = λ h. h; no_pair = λ h. h }
-kept (p_lam p q) e = record { stays = refl; no_lam = λ h. h; no_pair = λ h. h }
-kept {b} (p_app {m = m} {m' = m'} {n = n} {n' = n'} p q) e =
-    let h = app_stuck b m n e in
-    let k = kept p h.0 in
-    record { stays = app_stands b m' n' k.stays (k.no_lam h.1); no_lam = λ h. h; no_pair = λ h. h }
-kept (p_sigma p q) e = record { stays = refl; no_lam = λ h. h; no_pair = λ h. h }
-kept (p_pair p q r s) e = record { stays = refl; no_lam = λ h. h; no_pair = λ h. h }
-kept {b} (p_fst {m = m} {m' = m'} p) e =
-    let h = fst_stuck b m e in
-    let k = kept p h.0 in
-    record { stays = fst_stands b m' k.stays (k.no_pair h.1); no_lam = λ h. h; no_pair = λ h. h }
-kept {b} (p_snd {m = m} {m' = m'} p) e =
-    let h = snd_stuck b m e in
-    let k = kept p h.0 in
-    record { stays = snd_stands b m' k.stays (k.no_pair h.1); no_lam = λ h. h; no_pair = λ h. h }
-kept (p_beta p q) e = cc
-kept (p_first p) e = cc
-kept (p_second p) e = cc
-kept (p_unfold f) e = cc
 
 -- runs in the parts
 pub data Ran (b : TermBodies) : Term → Term → Type 0 where

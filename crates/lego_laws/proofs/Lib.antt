@@ -3,6 +3,7 @@ pub mod Parallel
 pub mod CommonReducts
 pub mod Mapping
 pub mod Below
+pub mod Stuck
 pub mod Head
 pub mod Renaming
 pub mod Inversion
