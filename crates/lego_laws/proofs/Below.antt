@@ -6,7 +6,7 @@ use Rattle.lego_term.specs.Steps.{Step, Converts}
 use Rattle.lego_term.specs.Below.{Below}
 use Rattle.lego_laws.specs.Cumulativity.{ByForm, BelowInverts, PiInverts, SigmaInverts, SortsInvert}
 use Rattle.lego_laws.proofs.Parallel.{p_refl}
-use Rattle.lego_laws.proofs.CommonReducts.{star_trans, star_map, steps_of_parallel, confluent, joins}
+use Rattle.lego_laws.proofs.CommonReducts.{star_trans, star_map, steps_of_parallel, confluent, joins, convert_run}
 
 under_trans : {t u v : Term} → ByForm t u → ByForm u v → ByForm t v
 under_trans ByForm.same q = q
@@ -93,10 +93,6 @@ module _ (b : TermBodies) (closed : AreClosed b) where
   meets (Below.chain p q) = meets_trans (meets p) (meets q)
 
 -- back again
-pub convert_run : {b : TermBodies} {t u : Term} → Star (Step b) t u → Converts b t u
-convert_run stop = Converts.same
-convert_run (go s p) = Converts.chain (Converts.step s) (convert_run p)
-
 climb : {b : TermBodies} (n k l : ℕ) → l ≡ k + n → Below b (Univ k) (Univ l)
 climb zero k l e = let equal : k ≡ l = omega arith in Below.converts (rw equal Converts.same)
 climb (suc n) k l e = Below.chain Below.universe (climb n (suc k) l (omega arith))

@@ -111,3 +111,43 @@ confluence_of b closed t u p =
 
 pub confluence : Confluence
 confluence = (confluence_of, confluence_of)
+
+-- a run converts
+pub convert_run : {B M L : Type 0} {b : Bodies B M L} {t u : Tree B M L} → Star (Step b) t u → Converts b t u
+convert_run stop = Converts.same
+convert_run (go s p) = Converts.chain (Converts.step s) (convert_run p)
+
+pub convert_map : {B M L : Type 0} {b : Bodies B M L} (f : Tree B M L → Tree B M L) → ((t u : Tree B M L) → Step b t u → Step b (f t) (f u)) → {t u : Tree B M L} → Converts b t u → Converts b (f t) (f u)
+convert_map f h (Converts.step s) = Converts.step (h _ _ s)
+convert_map f h Converts.same = Converts.same
+convert_map f h (Converts.back p) = Converts.back (convert_map f h p)
+convert_map f h (Converts.chain p q) = Converts.chain (convert_map f h p) (convert_map f h q)
+
+-- conversion under each constructor
+two_maps : {B M L : Type 0} {b : Bodies B M L} (f : Tree B M L → Tree B M L → Tree B M L) → ((x x' y : Tree B M L) → Step b x x' → Step b (f x y) (f x' y)) → ((x y y' : Tree B M L) → Step b y y' → Step b (f x y) (f x y')) → {x x' y y' : Tree B M L} → Converts b x x' → Converts b y y' → Converts b (f x y) (f x' y')
+two_maps f left right {x' = x'} {y = y} p q =
+    Converts.chain (convert_map (λ z. f z y) (λ _ _ s. left _ _ _ s) p) (convert_map (f x') (λ _ _ s. right _ _ _ s) q)
+
+module _ {B M L : Type 0} {b : Bodies B M L} where
+  pub pi_same : {x : B} {a a' r r' : Tree B M L} → Converts b a a' → Converts b r r' → Converts b (Pi x a r) (Pi x a' r')
+  pi_same {x} = two_maps (Pi x) (λ _ _ _ s. Step.pi_domain s) (λ _ _ _ s. Step.pi_body s)
+
+  pub lam_same : {x : B} {a a' r r' : Tree B M L} → Converts b a a' → Converts b r r' → Converts b (Lam x a r) (Lam x a' r')
+  lam_same {x} = two_maps (Lam x) (λ _ _ _ s. Step.lam_domain s) (λ _ _ _ s. Step.lam_body s)
+
+  pub app_same : {k : M} {a a' r r' : Tree B M L} → Converts b a a' → Converts b r r' → Converts b (App k a r) (App k a' r')
+  app_same {k} = two_maps (App k) (λ _ _ _ s. Step.function s) (λ _ _ _ s. Step.argument s)
+
+  pub sigma_same : {x : B} {a a' r r' : Tree B M L} → Converts b a a' → Converts b r r' → Converts b (Sigma x a r) (Sigma x a' r')
+  sigma_same {x} = two_maps (Sigma x) (λ _ _ _ s. Step.sigma_domain s) (λ _ _ _ s. Step.sigma_body s)
+
+  pub pair_same : {x : B} {a a' r r' m m' n n' : Tree B M L} → Converts b a a' → Converts b r r' → Converts b m m' → Converts b n n' → Converts b (Pair x a r m n) (Pair x a' r' m' n')
+  pair_same {x} {a' = a'} {r' = r'} {m = m} {n = n} p q y z =
+      Converts.chain (two_maps (λ v w. Pair x v w m n) (λ _ _ _ s. Step.pair_domain s) (λ _ _ _ s. Step.pair_body s) p q)
+      (two_maps (Pair x a' r') (λ _ _ _ s. Step.pair_first s) (λ _ _ _ s. Step.pair_second s) y z)
+
+  pub fst_same : {m m' : Tree B M L} → Converts b m m' → Converts b (Fst m) (Fst m')
+  fst_same p = convert_map Fst (λ _ _ s. Step.fst_operand s) p
+
+  pub snd_same : {m m' : Tree B M L} → Converts b m m' → Converts b (Snd m) (Snd m')
+  snd_same p = convert_map Snd (λ _ _ s. Step.snd_operand s) p

@@ -7,6 +7,7 @@ use Rattle.lego_term.specs.Below.{Below}
 use Rattle.lego_term.specs.Sequences.{head_step}
 use Rattle.lego_laws.specs.HeadForms.{IsHeadForm, PartsBelow, at_var, at_const, at_prop, at_prop_univ, at_univ, at_pi, at_lam, at_app, at_sigma, at_pair, at_fst, at_snd, HeadFormsCompare}
 use Rattle.lego_laws.specs.Cumulativity.{ByForm}
+use Rattle.lego_laws.proofs.CommonReducts.{lam_same, app_same, pair_same, fst_same, snd_same}
 use Rattle.lego_laws.proofs.Stuck.{Kept, kept}
 use Rattle.lego_laws.proofs.Below.{meets, convert_joined, below_of, under-below}
 
@@ -75,12 +76,6 @@ compared (r_pair p q x y) ByForm.same (r_pair r s w z) = at_pair (convert_joined
 compared (r_fst p) ByForm.same (r_fst r) = at_fst (convert_joined p r)
 compared (r_snd p) ByForm.same (r_snd r) = at_snd (convert_joined p r)
 
-pub convert_map : {b : TermBodies} (f : Term → Term) → ((t u : Term) → Step b t u → Step b (f t) (f u)) → {t u : Term} → Converts b t u → Converts b (f t) (f u)
-convert_map f h (Converts.step s) = Converts.step (h _ _ s)
-convert_map f h Converts.same = Converts.same
-convert_map f h (Converts.back p) = Converts.back (convert_map f h p)
-convert_map f h (Converts.chain p q) = Converts.chain (convert_map f h p) (convert_map f h q)
-
 pub parts_below : {b : TermBodies} {t u : Term} → PartsBelow b t u → Below b t u
 parts_below at_var = Below.converts Converts.same
 parts_below at_const = Below.converts Converts.same
@@ -88,14 +83,12 @@ parts_below at_prop = Below.converts Converts.same
 parts_below at_prop_univ = under-below ByForm.prop
 parts_below (at_univ l) = under-below (ByForm.universes l)
 parts_below (at_pi p q) = Below.pi p q
-parts_below (at_lam {a' = a'} {m = m} p q) = Below.converts (Converts.chain (convert_map (λ x. Lam tt x m) (λ _ _ s. Step.lam_domain s) p) (convert_map (Lam tt a') (λ _ _ s. Step.lam_body s) q))
-parts_below (at_app {m' = m'} {n = n} p q) = Below.converts (Converts.chain (convert_map (λ x. App tt x n) (λ _ _ s. Step.function s) p) (convert_map (App tt m') (λ _ _ s. Step.argument s) q))
+parts_below (at_lam p q) = Below.converts (lam_same p q)
+parts_below (at_app p q) = Below.converts (app_same p q)
 parts_below (at_sigma p q) = Below.sigma p q
-parts_below (at_pair {a' = a'} {c = c} {c' = c'} {m = m} {m' = m'} {n = n} p q x y) =
-    Below.converts (Converts.chain (convert_map (λ z. Pair tt z c m n) (λ _ _ s. Step.pair_domain s) p) (Converts.chain (convert_map (λ z. Pair tt a' z m n) (λ _ _ s. Step.pair_body s) q)
-    (Converts.chain (convert_map (λ z. Pair tt a' c' z n) (λ _ _ s. Step.pair_first s) x) (convert_map (Pair tt a' c' m') (λ _ _ s. Step.pair_second s) y))))
-parts_below (at_fst p) = Below.converts (convert_map Fst (λ _ _ s. Step.fst_operand s) p)
-parts_below (at_snd p) = Below.converts (convert_map Snd (λ _ _ s. Step.snd_operand s) p)
+parts_below (at_pair p q x y) = Below.converts (pair_same p q x y)
+parts_below (at_fst p) = Below.converts (fst_same p)
+parts_below (at_snd p) = Below.converts (snd_same p)
 
 pub head_forms_compare : HeadFormsCompare
 head_forms_compare b closed t u e f = (λ p. let m = meets b closed p in compared (ran m.left e) m.under (ran m.right f), parts_below)

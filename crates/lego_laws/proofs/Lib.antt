@@ -11,3 +11,5 @@ pub mod TypedSteps
 pub mod Rules
 pub mod Entries
 pub mod TypingLaws
+pub mod HeadSteps
+pub mod Valued

@@ -7,8 +7,8 @@ use Rattle.lego_term.specs.Below.{Below}
 use Rattle.lego_laws.specs.Derivations.{Derives, d_prop, d_univ, d_var, d_const, d_pi_prop, d_pi, d_lam, d_app, d_sigma, d_pair, d_fst, d_snd, d_cum, ValidLocals, v_local, ValidConstants}
 use Rattle.lego_laws.proofs.Subst.{one, instantiate_is}
 use Rattle.lego_laws.proofs.Parallel.{p_refl, p-instantiate}
-use Rattle.lego_laws.proofs.CommonReducts.{parallel-steps}
-use Rattle.lego_laws.proofs.Below.{convert_run, pi_inverts, sigma_inverts}
+use Rattle.lego_laws.proofs.CommonReducts.{parallel-steps, convert_run}
+use Rattle.lego_laws.proofs.Below.{pi_inverts, sigma_inverts}
 use Rattle.lego_laws.proofs.Renaming.{d-instantiate, d-narrow, below-substitute}
 use Rattle.lego_laws.proofs.Inversion.{from_none, generation, type_correct}
 
