@@ -13,3 +13,5 @@ pub mod Entries
 pub mod TypingLaws
 pub mod HeadSteps
 pub mod Valued
+pub mod Satisfying
+pub mod Comparing
