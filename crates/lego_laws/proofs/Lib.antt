@@ -15,3 +15,4 @@ pub mod HeadSteps
 pub mod Valued
 pub mod Satisfying
 pub mod Comparing
+pub mod Differing
