@@ -16,3 +16,5 @@ pub mod Valued
 pub mod Satisfying
 pub mod Comparing
 pub mod Differing
+pub mod After
+pub mod NormalSteps
