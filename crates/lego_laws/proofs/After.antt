@@ -8,7 +8,7 @@ module _ {T : Type 0} (f : T → Option T) where
   abbrev pub Has : T → ℕ → Type 0
   Has t n = (u : T) × (after f n t ≡ Some u)
 
-  next : (n : ℕ) (o : Option T) (u : T) → option_and_then (after f n) o ≡ Some u → (x : T) × (o ≡ Some x) × (after f n x ≡ Some u)
+  pub next : (n : ℕ) (o : Option T) (u : T) → option_and_then (after f n) o ≡ Some u → (x : T) × (o ≡ Some x) × (after f n x ≡ Some u)
   next n None u e = cc
   next n (Some x) u e = (x, refl, e)
 

@@ -18,3 +18,4 @@ pub mod Comparing
 pub mod Differing
 pub mod After
 pub mod NormalSteps
+pub mod Counted
