@@ -1,6 +1,7 @@
 pub mod Subst
 pub mod Parallel
 pub mod CommonReducts
+pub mod Substituted
 pub mod Mapping
 pub mod Below
 pub mod Stuck

@@ -6,6 +6,7 @@ use Rattle.lego_term.specs.Steps.{Converts}
 use Rattle.lego_term.specs.Below.{Below}
 use Rattle.lego_laws.specs.Derivations.{HasLocal, Derives, d_prop, d_univ, d_var, d_const, d_pi_prop, d_pi, d_lam, d_app, d_sigma, d_pair, d_fst, d_snd, d_cum}
 use Rattle.lego_laws.proofs.Subst.{rename, up_ren, substitute, up, one, rename_is, rename-rename, substitute_var, substitute-rename, rename-substitute, substitute-instantiate, instantiate_is, lift_is, raise}
+use Rattle.lego_laws.proofs.Substituted.{convert-substitute}
 use Rattle.lego_laws.proofs.Parallel.{p_refl, p-substitute, closed_rename, closed_substitute, rename-instantiate}
 use Rattle.lego_laws.proofs.CommonReducts.{step-parallel, parallel-steps, convert_run}
 use mathlib.Core.Path.{fun_ext}
@@ -16,17 +17,11 @@ lift_one t =
     lift_is 0 1 t ∙ ap (λ f. rename f t) e
 
 module _ (b : TermBodies) (closed : AreClosed b) where
-  pub convert-substitute : (s : ℕ → Term) {t u : Term} → Converts b t u → Converts b (substitute s t) (substitute s u)
-  convert-substitute s (Converts.step p) = convert_run (parallel-steps (p-substitute b closed s s (λ i. p_refl b (s i)) (step-parallel p)))
-  convert-substitute s Converts.same = Converts.same
-  convert-substitute s (Converts.back p) = Converts.back (convert-substitute s p)
-  convert-substitute s (Converts.chain p q) = Converts.chain (convert-substitute s p) (convert-substitute s q)
-
   pub below-substitute : (s : ℕ → Term) {t u : Term} → Below b t u → Below b (substitute s t) (substitute s u)
-  below-substitute s (Below.converts p) = Below.converts (convert-substitute s p)
+  below-substitute s (Below.converts p) = Below.converts (convert-substitute b closed s p)
   below-substitute s Below.prop = Below.prop
   below-substitute s Below.universe = Below.universe
-  below-substitute s (Below.pi p q) = Below.pi (convert-substitute s p) (below-substitute (up s) q)
+  below-substitute s (Below.pi p q) = Below.pi (convert-substitute b closed s p) (below-substitute (up s) q)
   below-substitute s (Below.sigma p q) = Below.sigma (below-substitute s p) (below-substitute (up s) q)
   below-substitute s (Below.chain p q) = Below.chain (below-substitute s p) (below-substitute s q)
 

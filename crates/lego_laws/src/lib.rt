@@ -2,14 +2,19 @@
 //! definitions, and each law as the contract of a function that does nothing.
 #![tactic(auto)]
 
+mod comparison;
 mod reduction;
 mod typing;
 
+pub use comparison::{
+    comparison_is_exact, difference_excludes_below, difference_excludes_conversion,
+    facing_parts_are_related, fewer_steps_are_counted, head_steps_are_counted,
+    long_walks_are_costly, parts_steps_are_counted, walked_steps_are_counted,
+};
 pub use reduction::{
     below_inverts, confluence, head_forms_compare, parallel_steps_meet, pi_inverts, sigma_inverts,
-    sorts_invert,
+    sorts_invert, steps_keep_at_values, steps_substitute,
 };
-
 pub use typing::{
     generation, judgements_stand_in_valid_lists, narrowing, rules_are_derivations,
     subject_reduction, substitution, thinning, thinning_by_constants, type_correctness,

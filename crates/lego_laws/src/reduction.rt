@@ -1,6 +1,6 @@
 //! Laws of steps, conversion and cumulativity.
 
-ghost use Rattle.lego_laws.specs.Confluence.{ParallelStepsMeet, Confluence};
+ghost use Rattle.lego_laws.specs.Confluence.{ParallelStepsMeet, Confluence, StepsSubstitute, StepsKeepAtValues};
 ghost use Rattle.lego_laws.specs.Cumulativity.{BelowInverts, PiInverts, SigmaInverts, SortsInvert};
 ghost use Rattle.lego_laws.specs.HeadForms.{HeadFormsCompare};
 
@@ -38,4 +38,14 @@ pub fn sorts_invert()
 /// Head forms are below each other exactly by their parts.
 pub fn head_forms_compare()
     ensures { HeadFormsCompare }
+{}
+
+/// Parallel steps and conversion keep under lifting and substitution.
+pub fn steps_substitute()
+    ensures { StepsSubstitute }
+{}
+
+/// Steps, parallel steps and conversion keep where values are put for levels.
+pub fn steps_keep_at_values()
+    ensures { StepsKeepAtValues }
 {}
