@@ -20,3 +20,4 @@ pub mod Differing
 pub mod After
 pub mod NormalSteps
 pub mod Counted
+pub mod Translated
