@@ -21,3 +21,5 @@ pub mod After
 pub mod NormalSteps
 pub mod Counted
 pub mod Translated
+pub mod Expanded
+pub mod ExpansionLaws

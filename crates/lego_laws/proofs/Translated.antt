@@ -107,24 +107,24 @@ module _ (s c b c' b' : TermBodies) (tc : AreClosed c) (bc : AreClosed b) (tc' :
   t-const g k a e d =
       rw (closed_rename (λ i. i) (standing s k) ((standing_closed s x.closed) k), closed_rename (λ i. i) (replace_constants s a) e) at (d-rename c' b' tc' bc' (λ i. i) d g (λ i y l. elim l [ ]))
 
-  pub loose-translate : (t : Term) → loose (replace_constants s t) ≤ loose t
-  loose-translate (Var i) = omega arith
-  loose-translate (Const k) = omega (arith, (standing_closed s x.closed) k)
-  loose-translate Prop = omega arith
-  loose-translate (Univ l) = omega arith
-  loose-translate (Pi tt a r) = omega (arith, loose-translate a, loose-translate r)
-  loose-translate (Lam tt a m) = omega (arith, loose-translate a, loose-translate m)
-  loose-translate (App tt m n) = omega (arith, loose-translate m, loose-translate n)
-  loose-translate (Sigma tt a r) = omega (arith, loose-translate a, loose-translate r)
-  loose-translate (Pair tt a r m n) = omega (arith, loose-translate a, loose-translate r, loose-translate m, loose-translate n)
-  loose-translate (Fst m) = loose-translate m
-  loose-translate (Snd m) = loose-translate m
+  pub loose-replace_constants : (t : Term) → loose (replace_constants s t) ≤ loose t
+  loose-replace_constants (Var i) = omega arith
+  loose-replace_constants (Const k) = omega (arith, (standing_closed s x.closed) k)
+  loose-replace_constants Prop = omega arith
+  loose-replace_constants (Univ l) = omega arith
+  loose-replace_constants (Pi tt a r) = omega (arith, loose-replace_constants a, loose-replace_constants r)
+  loose-replace_constants (Lam tt a m) = omega (arith, loose-replace_constants a, loose-replace_constants m)
+  loose-replace_constants (App tt m n) = omega (arith, loose-replace_constants m, loose-replace_constants n)
+  loose-replace_constants (Sigma tt a r) = omega (arith, loose-replace_constants a, loose-replace_constants r)
+  loose-replace_constants (Pair tt a r m n) = omega (arith, loose-replace_constants a, loose-replace_constants r, loose-replace_constants m, loose-replace_constants n)
+  loose-replace_constants (Fst m) = loose-replace_constants m
+  loose-replace_constants (Snd m) = loose-replace_constants m
 
   pub t-derives : {g : List Term} {m a : Term} → Derives c b g m a → Derives c' b' (map (replace_constants s) g) (replace_constants s m) (replace_constants s a)
   t-derives d_prop = d_prop
   t-derives d_univ = d_univ
   t-derives (d_var l) = d_var (t-local l)
-  t-derives (d_const {g = g} {k = k} {a = a} e) = t-const (map (replace_constants s) g) k a (omega (arith, loose-translate a, tc k a e)) (x.typed k a e)
+  t-derives (d_const {g = g} {k = k} {a = a} e) = t-const (map (replace_constants s) g) k a (omega (arith, loose-replace_constants a, tc k a e)) (x.typed k a e)
   t-derives (d_pi_prop d e) = d_pi_prop (t-derives d) (t-derives e)
   t-derives (d_pi d e) = d_pi (t-derives d) (t-derives e)
   t-derives (d_lam d e) = d_lam (t-derives d) (t-derives e)
