@@ -23,3 +23,4 @@ pub mod Counted
 pub mod Translated
 pub mod Expanded
 pub mod ExpansionLaws
+pub mod Strengthened
