@@ -24,3 +24,4 @@ pub mod Translated
 pub mod Expanded
 pub mod ExpansionLaws
 pub mod Strengthened
+pub mod StrengtheningLaws
