@@ -25,3 +25,6 @@ pub mod Expanded
 pub mod ExpansionLaws
 pub mod Strengthened
 pub mod StrengtheningLaws
+pub mod Replaced
+pub mod ReplacementLaws
+pub mod Closing

@@ -19,49 +19,49 @@ module _ {B M L : Type 0} (b : Bodies B M L) where
   normal_step-step (Univ l) u e = cc
   normal_step-step (Pi x a r) u e =
       elim (either_some (option_map (λ z. Pi x z r) (normal_step b a)) (option_map (λ z. Pi x a z) (normal_step b r)) u e) [
-        inl p ↦ under (λ z. Pi x z r) (normal_step b a) a u (λ _ _ s. Step.pi_domain s) (normal_step-step a) p
+        | inl p ↦ under (λ z. Pi x z r) (normal_step b a) a u (λ _ _ s. Step.pi_domain s) (normal_step-step a) p
         | inr q ↦ under (λ z. Pi x a z) (normal_step b r) r u (λ _ _ s. Step.pi_body s) (normal_step-step r) q.1
       ]
   normal_step-step (Lam x a r) u e =
       elim (either_some (option_map (λ z. Lam x z r) (normal_step b a)) (option_map (λ z. Lam x a z) (normal_step b r)) u e) [
-        inl p ↦ under (λ z. Lam x z r) (normal_step b a) a u (λ _ _ s. Step.lam_domain s) (normal_step-step a) p
+        | inl p ↦ under (λ z. Lam x z r) (normal_step b a) a u (λ _ _ s. Step.lam_domain s) (normal_step-step a) p
         | inr q ↦ under (λ z. Lam x a z) (normal_step b r) r u (λ _ _ s. Step.lam_body s) (normal_step-step r) q.1
       ]
   normal_step-step (Sigma x a r) u e =
       elim (either_some (option_map (λ z. Sigma x z r) (normal_step b a)) (option_map (λ z. Sigma x a z) (normal_step b r)) u e) [
-        inl p ↦ under (λ z. Sigma x z r) (normal_step b a) a u (λ _ _ s. Step.sigma_domain s) (normal_step-step a) p
+        | inl p ↦ under (λ z. Sigma x z r) (normal_step b a) a u (λ _ _ s. Step.sigma_domain s) (normal_step-step a) p
         | inr q ↦ under (λ z. Sigma x a z) (normal_step b r) r u (λ _ _ s. Step.sigma_body s) (normal_step-step r) q.1
       ]
   normal_step-step (App k m n) u e =
       elim (either_some (head_step b (App k m n)) (or_else (option_map (λ z. App k z n) (normal_step b m)) (option_map (λ z. App k m z) (normal_step b n))) u e) [
-        inl p ↦ head_step-step b (App k m n) u p
+        | inl p ↦ head_step-step b (App k m n) u p
         | inr q ↦
-          elim (either_some (option_map (λ z. App k z n) (normal_step b m)) (option_map (λ z. App k m z) (normal_step b n)) u q.1) [
-            inl p ↦ under (λ z. App k z n) (normal_step b m) m u (λ _ _ s. Step.function s) (normal_step-step m) p
-            | inr r ↦ under (λ z. App k m z) (normal_step b n) n u (λ _ _ s. Step.argument s) (normal_step-step n) r.1
-          ]
+            elim (either_some (option_map (λ z. App k z n) (normal_step b m)) (option_map (λ z. App k m z) (normal_step b n)) u q.1) [
+              | inl p ↦ under (λ z. App k z n) (normal_step b m) m u (λ _ _ s. Step.function s) (normal_step-step m) p
+              | inr r ↦ under (λ z. App k m z) (normal_step b n) n u (λ _ _ s. Step.argument s) (normal_step-step n) r.1
+            ]
       ]
   normal_step-step (Pair x a r m n) u e =
       elim (either_some (option_map (λ z. Pair x z r m n) (normal_step b a)) _ u e) [
-        inl p ↦ under (λ z. Pair x z r m n) (normal_step b a) a u (λ _ _ s. Step.pair_domain s) (normal_step-step a) p
+        | inl p ↦ under (λ z. Pair x z r m n) (normal_step b a) a u (λ _ _ s. Step.pair_domain s) (normal_step-step a) p
         | inr q ↦
-          elim (either_some (option_map (λ z. Pair x a z m n) (normal_step b r)) _ u q.1) [
-            inl p ↦ under (λ z. Pair x a z m n) (normal_step b r) r u (λ _ _ s. Step.pair_body s) (normal_step-step r) p
-            | inr q' ↦
-              elim (either_some (option_map (λ z. Pair x a r z n) (normal_step b m)) (option_map (λ z. Pair x a r m z) (normal_step b n)) u q'.1) [
-                inl p ↦ under (λ z. Pair x a r z n) (normal_step b m) m u (λ _ _ s. Step.pair_first s) (normal_step-step m) p
-                | inr s ↦ under (λ z. Pair x a r m z) (normal_step b n) n u (λ _ _ s. Step.pair_second s) (normal_step-step n) s.1
-              ]
-          ]
+            elim (either_some (option_map (λ z. Pair x a z m n) (normal_step b r)) _ u q.1) [
+              | inl p ↦ under (λ z. Pair x a z m n) (normal_step b r) r u (λ _ _ s. Step.pair_body s) (normal_step-step r) p
+              | inr q' ↦
+                  elim (either_some (option_map (λ z. Pair x a r z n) (normal_step b m)) (option_map (λ z. Pair x a r m z) (normal_step b n)) u q'.1) [
+                    | inl p ↦ under (λ z. Pair x a r z n) (normal_step b m) m u (λ _ _ s. Step.pair_first s) (normal_step-step m) p
+                    | inr s ↦ under (λ z. Pair x a r m z) (normal_step b n) n u (λ _ _ s. Step.pair_second s) (normal_step-step n) s.1
+                  ]
+            ]
       ]
   normal_step-step (Fst m) u e =
       elim (either_some (head_step b (Fst m)) (option_map Fst (normal_step b m)) u e) [
-        inl p ↦ head_step-step b (Fst m) u p
+        | inl p ↦ head_step-step b (Fst m) u p
         | inr q ↦ under Fst (normal_step b m) m u (λ _ _ s. Step.fst_operand s) (normal_step-step m) q.1
       ]
   normal_step-step (Snd m) u e =
       elim (either_some (head_step b (Snd m)) (option_map Snd (normal_step b m)) u e) [
-        inl p ↦ head_step-step b (Snd m) u p
+        | inl p ↦ head_step-step b (Snd m) u p
         | inr q ↦ under Snd (normal_step b m) m u (λ _ _ s. Step.snd_operand s) (normal_step-step m) q.1
       ]
 

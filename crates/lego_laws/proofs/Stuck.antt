@@ -73,4 +73,3 @@ kept (p_beta p q) e = cc
 kept (p_first p) e = cc
 kept (p_second p) e = cc
 kept (p_unfold f) e = cc
-

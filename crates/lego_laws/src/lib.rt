@@ -3,13 +3,21 @@
 #![tactic(auto)]
 
 mod comparison;
+mod constants;
 mod reduction;
 mod typing;
+
+ghost use Rattle.lego_laws.specs.Judgement.{Has};
+ghost use Rattle.lego_laws.specs.Fitting.{Fits};
 
 pub use comparison::{
     comparison_is_exact, difference_excludes_below, difference_excludes_conversion,
     facing_parts_are_related, fewer_steps_are_counted, head_steps_are_counted,
     long_walks_are_costly, parts_steps_are_counted, walked_steps_are_counted,
+};
+pub use constants::{
+    closing_is_replacement, dropped_lists_are_valid, expansion, judgements_expand, replacement,
+    strengthening, translation,
 };
 pub use reduction::{
     below_inverts, confluence, head_forms_compare, parallel_steps_meet, pi_inverts, sigma_inverts,
@@ -19,6 +27,3 @@ pub use typing::{
     generation, judgements_stand_in_valid_lists, narrowing, rules_are_derivations,
     subject_reduction, substitution, thinning, thinning_by_constants, type_correctness,
 };
-
-ghost use Rattle.lego_laws.specs.Judgement.{Has};
-ghost use Rattle.lego_laws.specs.Fitting.{Fits};
