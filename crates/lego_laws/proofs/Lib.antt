@@ -28,3 +28,4 @@ pub mod StrengtheningLaws
 pub mod Replaced
 pub mod ReplacementLaws
 pub mod Closing
+pub mod Agreeing
