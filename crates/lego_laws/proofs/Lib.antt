@@ -29,3 +29,7 @@ pub mod Replaced
 pub mod ReplacementLaws
 pub mod Closing
 pub mod Agreeing
+pub mod LevelsWithin
+pub mod Bounded
+pub mod Highest
+pub mod Greatest
