@@ -33,3 +33,4 @@ pub mod LevelsWithin
 pub mod Bounded
 pub mod Highest
 pub mod Greatest
+pub mod Solving
