@@ -1,6 +1,6 @@
 -- Terms, constraints and constants at assignments that agree.
-use Rattle.std.proofs.Common.{◌≡◌, ℕ, zero, suc, ◌+◌, ◌≤◌, ◌<◌, max, nat_lt, Option, Some, None, option_map, List, [], ◌∷◌, ◌++◌, map, get_or, refl, sym, ap, ap₂, ◌∙◌, arith, subst}
-use Rattle.std.proofs.lemmas.Bool.Decides.{nat_tests}
+use Rattle.std.proofs.Common.{◌≡◌, ℕ, zero, suc, ◌+◌, ◌≤◌, ◌<◌, max, nat_lt, Option, Some, None, option_map, List, [], ◌∷◌, ◌++◌, map, get_or, refl, sym, ap, ap₂, ◌∙◌, arith, subst, ⊎_elim}
+use Rattle.std.proofs.lemmas.Bool.{cases_lt}
 use mathlib.Core.Path.{fun_ext}
 use Rattle.lego_term.specs.declared.level.Level.{Level}
 use Rattle.lego_term.specs.Levels.{Assignment, node_value, level_value, LevelPair, SatisfiesAll}
@@ -117,3 +117,15 @@ pub put_here : (n j : ℕ) (v : Assignment) → get_or (put_level n j v) n 0 ≡
 put_here zero j v = refl
 put_here (suc n) j [] = put_here n j []
 put_here (suc n) j (x ∷ v) = put_here n j v
+
+put_after : (n j : ℕ) (v : Assignment) (u : ℕ) → suc n ≤ u → get_or (put_level n j v) u 0 ≡ 0
+put_after zero j v zero l = absurd (omega arith)
+put_after zero j v (suc u) l = none_held u
+put_after (suc n) j [] zero l = absurd (omega arith)
+put_after (suc n) j [] (suc u) l = put_after n j [] u (omega arith)
+put_after (suc n) j (x ∷ v) zero l = absurd (omega arith)
+put_after (suc n) j (x ∷ v) (suc u) l = put_after n j v u (omega arith)
+
+pub put_small : (n j t : ℕ) (v : Assignment) → j ≤ t → (u : ℕ) → n ≤ u → get_or (put_level n j v) u 0 ≤ t
+put_small n j t v le u lo =
+    ⊎_elim (λ (l : n < u). let e = put_after n j v u l in omega arith) (λ (l : u ≤ n). let e : u ≡ n = omega arith in let k = put_here n j v in rw e (omega arith)) (cases_lt n u)

@@ -34,3 +34,4 @@ pub mod Bounded
 pub mod Highest
 pub mod Greatest
 pub mod Solving
+pub mod FitsBinder
