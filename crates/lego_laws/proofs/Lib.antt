@@ -35,3 +35,6 @@ pub mod Highest
 pub mod Greatest
 pub mod Solving
 pub mod FitsBinder
+pub mod FitsLeaf
+pub mod FitsApp
+pub mod FitsPair

@@ -74,7 +74,7 @@ all_over b b' w ps e h = subst (λ z. AllBelow z w ps) e h
 abbrev pub one_solved : {low : ℕ} {v : Assignment} {b : CoreBodies} {k : List LevelPair} {a : Core} {q : Term} {t : ℕ} → Solution low v b k a q t → Solved low v b k ((a, q) ∷ []) t
 one_solved s = record { w = s.w; agree = s.agree; satisfies = s.satisfies; below = (s.below, tt); small = s.small }
 
-small_both : (n₀ n₁ t : ℕ) (w₁ w₂ : Assignment) → Agree n₁ w₁ w₂ → ((u : ℕ) → n₀ ≤ u → get_or w₁ u 0 ≤ t) → ((u : ℕ) → n₁ ≤ u → get_or w₂ u 0 ≤ t) → (u : ℕ) → n₀ ≤ u → get_or w₂ u 0 ≤ t
+pub small_both : (n₀ n₁ t : ℕ) (w₁ w₂ : Assignment) → Agree n₁ w₁ w₂ → ((u : ℕ) → n₀ ≤ u → get_or w₁ u 0 ≤ t) → ((u : ℕ) → n₁ ≤ u → get_or w₂ u 0 ≤ t) → (u : ℕ) → n₀ ≤ u → get_or w₂ u 0 ≤ t
 small_both n₀ n₁ t w₁ w₂ a p q u lo = ⊎_elim (λ l. let e = a.same u l in let h = p u lo in omega arith) (λ l. q u l) (cases_lt u n₁)
 
 pub then_solved : (n₀ n₁ : ℕ) (v : Assignment) (b : CoreBodies) (k₁ k₂ : List LevelPair) (ps qs : List (Core × Term)) (t : ℕ) → n₀ ≤ n₁ → ((k : ℕ) (u : Core) → b k ≡ Some u → levels_bound u ≤ n₀) → pairs_bound k₁ ≤ n₁ → firsts_bound ps ≤ n₁ → (s : Solved n₀ v b k₁ ps t) → Solved n₁ s.w b k₂ qs t → Solved n₀ v b (k₁ ++ k₂) (ps ++ qs) t
