@@ -1,6 +1,5 @@
 -- Sequences of steps of any kind.
-use Rattle.std.proofs.Common.{◌≡◌, ℕ, zero, suc, ◌+◌, ◌-◌, ◌≤◌, ◌<◌, Option, Some, None, option_and_then, ◌⊎◌, inl, inr, ⊎_elim, refl, sym, ap, ◌∙◌, arith, subst}
-use Rattle.std.proofs.lemmas.Bool.{cases_lt}
+use Rattle.std.proofs.Common.{◌≡◌, ℕ, zero, suc, ◌+◌, ◌-◌, ◌≤◌, ◌<◌, Option, Some, None, option_and_then, ◌⊎◌, inl, inr, ⊎_elim, refl, ap, ◌∙◌, arith, subst}
 use Rattle.lego_term.specs.Sequences.{after}
 
 module _ {T : Type 0} (f : T → Option T) where

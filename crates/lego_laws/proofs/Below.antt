@@ -2,7 +2,7 @@
 use Rattle.std.proofs.Common.{◌≡◌, ℕ, zero, suc, ◌+◌, ◌-◌, ◌≤◌, refl, arith}
 use Rattle.lego_term.specs.Trees.{Term, Prop, Univ, Pi, Sigma}
 use Rattle.lego_laws.specs.Parallel.{TermBodies, AreClosed, ParallelStep, p_prop, p_univ, p_pi, p_sigma, Star, stop, go}
-use Rattle.lego_term.specs.Steps.{Step, Converts}
+use Rattle.lego_term.specs.Steps.{Converts}
 use Rattle.lego_term.specs.Below.{Below}
 use Rattle.lego_laws.specs.Cumulativity.{ByForm, BelowInverts, PiInverts, SigmaInverts, SortsInvert}
 use Rattle.lego_laws.proofs.Parallel.{p_refl}

@@ -1,8 +1,8 @@
 -- Turning listed constants into variables is a replacement.
-use Rattle.std.proofs.Common.{◌≡◌, ℕ, zero, suc, ◌+◌, ◌≤◌, max, pred, nat_lt, if◌then◌else◌, length, Option, Some, None, option_map, unwrap_or, List, refl, sym, ap, ap₂, ◌∙◌, arith}
+use Rattle.std.proofs.Common.{◌≡◌, ℕ, suc, ◌+◌, ◌≤◌, nat_lt, if◌then◌else◌, length, Option, Some, None, option_map, unwrap_or, List, refl, sym, ap, ap₂, ◌∙◌, arith}
 use Rattle.std.proofs.lemmas.Bool.Decides.{nat_tests}
 use mathlib.Core.Path.{fun_ext}
-use Rattle.lego_term.specs.Trees.{Tree, Term, Var, Const, Prop, Univ, Pi, Lam, App, Sigma, Pair, Fst, Snd, lift, loose, listed_variable, close_over}
+use Rattle.lego_term.specs.Trees.{Tree, Var, Const, Prop, Univ, Pi, Lam, App, Sigma, Pair, Fst, Snd, lift, loose, listed_variable, close_over}
 use Rattle.lego_laws.specs.Replacement.{raised, replace, listed_as_locals, ClosingIsReplacement}
 
 inner_var : (ns : List ℕ) (i depth : ℕ) → suc i ≤ depth → (if nat_lt i depth then i else i + length ns) ≡ i

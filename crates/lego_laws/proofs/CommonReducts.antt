@@ -2,7 +2,7 @@
 use Rattle.lego_term.specs.Trees.{Tree, Pi, Lam, App, Sigma, Pair, Fst, Snd, Bodies}
 use Rattle.lego_term.specs.Steps.{Contracts, Step, Converts}
 use Rattle.lego_laws.specs.Parallel.{AreClosed, ParallelStep, p_var, p_const, p_prop, p_univ, p_pi, p_lam, p_app, p_sigma, p_pair, p_fst, p_snd, p_beta, p_first, p_second, p_unfold, Star, stop, go}
-use Rattle.lego_laws.specs.Confluence.{HasCommonReduct, ParallelStepsMeetOf, ParallelStepsMeet, ConfluenceOf, Confluence}
+use Rattle.lego_laws.specs.Confluence.{ParallelStepsMeetOf, ParallelStepsMeet, ConfluenceOf, Confluence}
 use Rattle.lego_laws.proofs.Parallel.{p_refl, develop, triangle}
 
 pub star_trans : {T : Type 0} {R : T → T → Type 0} {t u v : T} → Star R t u → Star R u v → Star R t v

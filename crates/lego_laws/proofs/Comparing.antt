@@ -5,9 +5,9 @@ use Rattle.lego_term.specs.Levels.{Assignment, level_value, LevelPair, Satisfies
 use Rattle.lego_term.specs.Trees.{Core, Term, Var, Const, Prop, Univ, Pi, Lam, App, Sigma, Pair, Fst, Snd, at}
 use Rattle.lego_term.specs.Steps.{Converts}
 use Rattle.lego_term.specs.Below.{Below}
-use Rattle.lego_laws.specs.Parallel.{TermBodies, CoreBodies, AreClosed, ParallelStep, Star, bodies_at}
+use Rattle.lego_laws.specs.Parallel.{TermBodies, CoreBodies, AreClosed, bodies_at}
 use Rattle.lego_laws.specs.Cumulativity.{ByForm}
-use Rattle.lego_laws.specs.HeadForms.{IsHeadForm, PartsBelow, at_var, at_const, at_prop, at_prop_univ, at_univ, at_pi, at_lam, at_app, at_sigma, at_pair, at_fst, at_snd}
+use Rattle.lego_laws.specs.HeadForms.{IsHeadForm, PartsBelow, at_lam, at_app, at_pair, at_fst, at_snd}
 use Rattle.lego_laws.specs.Facing.{Order, Up, Both}
 use Rattle.lego_laws.specs.Comparison.{Related, asked, Compared, m_equal, m_heads, FormsCompared, f_var, f_const, f_prop, f_prop_univ, f_univ, f_pi, f_lam, f_app, f_sigma, f_pair, f_fst, f_snd, ComparisonIsExact}
 use Rattle.lego_laws.proofs.CommonReducts.{joins, pi_same, lam_same, app_same, sigma_same, pair_same, fst_same, snd_same}

@@ -1,11 +1,9 @@
 -- The steps of a walk are among those of the normalisation sequences.
-use Rattle.std.proofs.Common.{◌≡◌, ℕ, zero, suc, ◌+◌, ◌-◌, ◌≤◌, ◌<◌, Some, None, List, [], ◌∷◌, ◌⊎◌, inl, inr, ⊎_elim, refl, ap, ◌∙◌, arith, subst}
+use Rattle.std.proofs.Common.{◌≡◌, ℕ, zero, suc, ◌+◌, ◌-◌, ◌≤◌, ◌<◌, Some, None, List, [], ◌∷◌, ⊎_elim, refl, arith, subst}
 use Rattle.std.proofs.lemmas.Bool.{cases_lt}
-use Rattle.lego_term.specs.declared.binder.Binder.{Binder}
-use Rattle.lego_term.specs.declared.binder.Mark.{Mark}
 use Rattle.lego_term.specs.Trees.{Core, Var, Const, Prop, Univ, Pi, Lam, App, Sigma, Pair, Fst, Snd}
 use Rattle.lego_term.specs.Parts.{Branch, parts_of}
-use Rattle.lego_term.specs.Sequences.{head_step, normal_step, after, Ends, CostMoreThan}
+use Rattle.lego_term.specs.Sequences.{head_step, normal_step, after, CostMoreThan}
 use Rattle.lego_laws.specs.Parallel.{CoreBodies}
 use Rattle.lego_laws.specs.HeadForms.{IsHeadForm}
 use Rattle.lego_laws.specs.Counting.{HasSteps, PartsHaveSteps, up_to_here, and_then, Walked, unvisited, on_the_way, through_parts, PartsWalked, stopped, next_part, HeadStepsAreCounted, PartsStepsAreCounted, FewerStepsAreCounted, WalkedStepsAreCounted, LongWalksAreCostly}

@@ -1,17 +1,17 @@
 -- Parts that face one another are related, so a difference excludes every value of the levels.
 use Rattle.std.proofs.Common.{◌≡◌, ℕ, zero, suc, Option, Some, None, List, [], ◌∷◌, slice_get, refl, sym, ◌∙◌, subst}
 use Rattle.lego_term.specs.declared.level.Level.{Level}
-use Rattle.lego_term.specs.Trees.{Core, Term, Var, Const, Prop, Univ, Pi, Lam, App, Sigma, Pair, Fst, Snd}
-use Rattle.lego_term.specs.Parts.{Shape, APi, ALam, AnApp, ASigma, APair, AFst, ASnd, shape_of, Branch, parts_of}
+use Rattle.lego_term.specs.Trees.{Core, Var, Const, Prop, Univ, Pi, Lam, App, Sigma, Pair, Fst, Snd}
+use Rattle.lego_term.specs.Parts.{Shape, shape_of, Branch, parts_of}
 use Rattle.lego_term.specs.Steps.{Converts}
 use Rattle.lego_term.specs.Below.{Below}
 use Rattle.lego_term.specs.Sequences.{HeadForm}
 use Rattle.lego_laws.specs.Parallel.{TermBodies, CoreBodies, AreClosed}
-use Rattle.lego_laws.specs.HeadForms.{IsHeadForm, PartsBelow, at_var, at_const, at_prop, at_prop_univ, at_univ, at_pi, at_lam, at_app, at_sigma, at_pair, at_fst, at_snd}
+use Rattle.lego_laws.specs.HeadForms.{IsHeadForm, PartsBelow, at_var, at_const}
 use Rattle.lego_laws.specs.Facing.{Order, Up, Both, order_at, Faces, SameRoot}
 use Rattle.lego_laws.specs.Comparison.{valued, bodies_valued, Related, AreInOrder, same_root, prop_below, DifferenceExcludesBelow, DifferenceExcludesConversion, FacingPartsAreRelated}
 use Rattle.lego_laws.proofs.Valued.{closed_valued, head_form_converts, head_form_valued}
-use Rattle.lego_laws.proofs.Comparing.{PartsConvert, k_var, k_const, k_prop, k_univ, k_pi, k_lam, k_app, k_sigma, k_pair, k_fst, k_snd, parts_convert, chain, need_pi, need_sigma, as_parts, lam_parts, app_parts, pair_parts, fst_parts, snd_parts}
+use Rattle.lego_laws.proofs.Comparing.{PartsConvert, k_var, k_const, parts_convert, chain, need_pi, need_sigma, as_parts, lam_parts, app_parts, pair_parts, fst_parts, snd_parts}
 
 -- the orders in which the parts of a form are compared
 abbrev orders : Order → Option Shape → ℕ → Order

@@ -1,12 +1,11 @@
 -- Derivations over valid constants expand.
-use Rattle.std.proofs.Common.{◌≡◌, ℕ, Bool, true, false, cond, Option, Some, None, option_map, option_and_then, unwrap_or, List, [], ◌∷◌, map, refl, sym, ap, ap₂, ◌∙◌, arith, nat_eq}
+use Rattle.std.proofs.Common.{◌≡◌, ℕ, Bool, true, false, cond, Option, Some, None, option_map, option_and_then, unwrap_or, List, [], ◌∷◌, refl, sym, ap, ap₂, ◌∙◌, arith, nat_eq}
 use Rattle.std.proofs.lemmas.Bool.Decides.{nat_tests}
 use Rattle.lego_term.specs.Trees.{Term, Const, Univ, Pi, Lam, App, Sigma, Fst, Snd, loose, replace_constants}
 use Rattle.lego_term.specs.Steps.{Converts}
-use Rattle.lego_laws.specs.Parallel.{TermBodies, AreClosed}
+use Rattle.lego_laws.specs.Parallel.{TermBodies}
 use Rattle.lego_laws.specs.Derivations.{types_of, Derives, d_prop, d_univ, d_var, d_const, d_pi_prop, d_pi, d_lam, d_app, d_sigma, d_pair, d_fst, d_snd, d_cum, ValidConstants}
 use Rattle.lego_laws.specs.Entries.{Constant, constant_of, bodies_of}
-use Rattle.lego_laws.specs.Translation.{standing}
 use Rattle.lego_laws.specs.Expansion.{expansions, expand_all}
 use Rattle.lego_laws.proofs.Rules.{ValidTypes}
 use Rattle.lego_laws.proofs.Entries.{Extends, more_derives, more_convert, loose_within, HasItsType, ValidBodies, types_kept, bodies_kept, valid_constants, types_closed, bodies_closed}

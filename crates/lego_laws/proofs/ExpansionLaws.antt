@@ -1,20 +1,20 @@
 -- Translation and expansion, for the thirteen rules.
-use Rattle.std.proofs.Common.{◌≡◌, ℕ, Option, Some, None, IfSome, IfNone, List, [], ◌∷◌, map, refl, sym, ap, ◌∙◌, subst}
+use Rattle.std.proofs.Common.{◌≡◌, ℕ, Option, Some, None, IfSome, IfNone, List, [], ◌∷◌, refl, subst}
 use Rattle.std.specs.List.{AllByRecursion}
 use Rattle.lego_term.specs.Trees.{Term, Univ, replace_constants}
 use Rattle.lego_term.specs.Steps.{Converts}
 use Rattle.lego_laws.specs.Parallel.{TermBodies, AreClosed}
 use Rattle.lego_laws.specs.Entries.{Constant, constant_of, bodies_of}
-use Rattle.lego_laws.specs.Judgement.{Valid, Has}
-use Rattle.lego_laws.specs.Valid.{AreValid, BodiesFit}
-use Rattle.lego_laws.specs.Derivations.{types_of, Derives, ValidConstants}
+use Rattle.lego_laws.specs.Judgement.{Has}
+use Rattle.lego_laws.specs.Valid.{AreValid}
+use Rattle.lego_laws.specs.Derivations.{types_of, Derives}
 use Rattle.lego_laws.specs.Translation.{standing, StandsFor, Translation}
-use Rattle.lego_laws.specs.Expansion.{expansions, expand, expand_all, HasPurely, IsPureType, HoldsPurely, Expansion, JudgementsExpand}
-use Rattle.lego_laws.proofs.Rules.{Known, known, derived, judged, valid_types, valid_locals, type_from}
-use Rattle.lego_laws.proofs.Entries.{HasItsType, ValidBodies, valid_constants, types_closed, bodies_closed, body_from}
+use Rattle.lego_laws.specs.Expansion.{expansions, expand, expand_all, HasPurely, IsPureType, Expansion, JudgementsExpand}
+use Rattle.lego_laws.proofs.Rules.{known, derived, judged, valid_types, valid_locals, type_from}
+use Rattle.lego_laws.proofs.Entries.{valid_constants, types_closed, bodies_closed, body_from}
 use Rattle.lego_laws.proofs.TypingLaws.{bodies_typed, constants_valid}
 use Rattle.lego_laws.proofs.Translated.{Translates, t-derives, t-locals}
-use Rattle.lego_laws.proofs.Expanded.{Expands, expands}
+use Rattle.lego_laws.proofs.Expanded.{expands}
 
 body_converts : (es : List Constant) (s : TermBodies) (k : ℕ) (o : Option Term) (t : Term) → o ≡ Some t → IfSome o (λ m. Converts (bodies_of es) (standing s k) (replace_constants s m)) → Converts (bodies_of es) (standing s k) (replace_constants s t)
 body_converts es s k None t e h = cc

@@ -1,16 +1,15 @@
 -- Constraints of an application and of projections from those of their parts.
-use Rattle.std.proofs.Common.{◌≡◌, ℕ, suc, ◌≤◌, max, List, [], ◌∷◌, ◌++◌, map, ◌↔◌, refl, sym, ap, ap₂, ◌∙◌, arith}
+use Rattle.std.proofs.Common.{◌≡◌, ℕ, ◌≤◌, List, ◌++◌, map, ◌↔◌, refl, sym, ap, ap₂, ◌∙◌, arith}
 use Rattle.lego_term.specs.declared.binder.Binder.{Binder}
 use Rattle.lego_term.specs.declared.binder.Mark.{Mark}
 use Rattle.lego_term.specs.Levels.{Assignment, level_value, LevelPair, SatisfiesAll}
 use Rattle.lego_term.specs.Trees.{Core, Term, Pi, App, Sigma, Fst, Snd, instantiate, at}
-use Rattle.lego_term.specs.Steps.{Step, Converts}
+use Rattle.lego_term.specs.Steps.{Converts}
 use Rattle.lego_term.specs.Below.{Below}
 use Rattle.lego_term.specs.Sequences.{HeadForm}
-use Rattle.lego_laws.specs.Parallel.{CoreBodies, AreClosed, bodies_at}
+use Rattle.lego_laws.specs.Parallel.{CoreBodies, bodies_at}
 use Rattle.lego_laws.specs.Derivations.{Derives, d_app, d_cum, d_fst, d_snd}
 use Rattle.lego_laws.specs.Ranges.{levels_bound, pairs_bound, Agree, Bounded, Context, Solution, FitsBetween}
-use Rattle.lego_laws.proofs.CommonReducts.{convert_run}
 use Rattle.lego_laws.proofs.Below.{pi_inverts, sigma_inverts}
 use Rattle.lego_laws.proofs.Mapping.{map-instantiate}
 use Rattle.lego_laws.proofs.Valued.{closed_valued, head_form_converts}

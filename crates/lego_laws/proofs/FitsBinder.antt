@@ -1,5 +1,5 @@
 -- Constraints of products, Sigma types and functions from those of their parts.
-use Rattle.std.proofs.Common.{◌≡◌, ℕ, suc, ◌+◌, ◌≤◌, ◌<◌, max, List, [], ◌∷◌, ◌++◌, map, get_or, inl, inr, ⊎_elim, refl, sym, ap, ◌∙◌, arith, Option, Some, None}
+use Rattle.std.proofs.Common.{◌≡◌, ℕ, suc, ◌+◌, ◌≤◌, ◌<◌, List, [], ◌∷◌, ◌++◌, map, get_or, inl, inr, ⊎_elim, refl, sym, ap, ◌∙◌, arith, Option, Some}
 use Rattle.std.proofs.lemmas.Bool.{cases_lt}
 use Rattle.lego_term.specs.declared.binder.Binder.{Binder}
 use Rattle.lego_term.specs.declared.level.Level.{Level}
@@ -8,16 +8,16 @@ use Rattle.lego_term.specs.Trees.{Core, Term, Prop, Univ, Pi, Lam, Sigma, at}
 use Rattle.lego_term.specs.Steps.{Converts}
 use Rattle.lego_term.specs.Below.{Below}
 use Rattle.lego_term.specs.Sequences.{HeadForm}
-use Rattle.lego_laws.specs.Parallel.{TermBodies, CoreBodies, AreClosed, bodies_at}
+use Rattle.lego_laws.specs.Parallel.{TermBodies, CoreBodies, bodies_at}
 use Rattle.lego_laws.specs.Cumulativity.{ByForm}
 use Rattle.lego_laws.specs.Derivations.{Derives, d_prop, d_univ, d_cum, d_pi, d_pi_prop, d_lam, d_sigma}
-use Rattle.lego_laws.specs.Ranges.{levels_bound, level_bound, pairs_bound, locals_bound, Agree, Bounded, GeneratedUpTo, Context, Solution, FitsBetween, sort_term, sort_at_most}
+use Rattle.lego_laws.specs.Ranges.{levels_bound, pairs_bound, Agree, Bounded, GeneratedUpTo, Context, Solution, FitsBetween, sort_term, sort_at_most}
 use Rattle.lego_laws.proofs.Below.{under-below, universe_prop}
 use Rattle.lego_laws.proofs.Valued.{closed_valued, head_form_converts}
 use Rattle.lego_laws.proofs.Bounded.{generation_up}
 use Rattle.lego_laws.proofs.Agreeing.{narrower, at_agree, satisfies_agree, bodies_agree, bounded_agree, moved, locals_agree, pairs_bound-append, agree_both, put_level, put_agree, put_here}
 use Rattle.lego_laws.proofs.Satisfying.{satisfies_append, satisfies_front, satisfies_back}
-use Rattle.lego_laws.proofs.Solving.{Solved, one_solved, then_solved, next, below_with, head_within, sort_value, sort_sound, sort_least, sort_levels, sort_agree, sort_holds, sort_held}
+use Rattle.lego_laws.proofs.Solving.{Solved, one_solved, then_solved, next, below_with, head_within, sort_sound, sort_least, sort_levels, sort_holds, sort_held}
 
 -- a derivation at a greater universe
 climb_to : {c b : TermBodies} {g : List Term} {a : Term} {k : ℕ} (l : ℕ) → k ≤ l → Derives c b g a (Univ k) → Derives c b g a (Univ l)

@@ -1,13 +1,13 @@
 -- Constraints of leaves.
-use Rattle.std.proofs.Common.{◌≡◌, ℕ, zero, suc, ◌+◌, ◌≤◌, max, Option, Some, None, option_map, List, [], ◌∷◌, map, get_or, refl, sym, ap, ◌∙◌, arith}
+use Rattle.std.proofs.Common.{◌≡◌, ℕ, zero, suc, ◌+◌, ◌≤◌, Some, option_map, List, [], ◌∷◌, map, get_or, refl, sym, ap, ◌∙◌, arith}
 use Rattle.lego_term.specs.declared.level.Level.{Level}
-use Rattle.lego_term.specs.Levels.{Assignment, node_value, level_value, fixed_level, variable_level, LevelPair, SatisfiesAll}
+use Rattle.lego_term.specs.Levels.{Assignment, level_value, fixed_level, variable_level, LevelPair}
 use Rattle.lego_term.specs.Trees.{Core, Term, Var, Const, Prop, Univ, lift, at}
 use Rattle.lego_term.specs.Below.{Below}
 use Rattle.lego_laws.specs.Parallel.{CoreBodies, bodies_at}
 use Rattle.lego_laws.specs.Cumulativity.{ByForm}
-use Rattle.lego_laws.specs.Derivations.{HasLocal, Derives, d_prop, d_univ, d_cum, d_var, d_const}
-use Rattle.lego_laws.specs.Ranges.{levels_bound, level_bound, locals_bound, Agree, Context, Solution, FitsBetween, raised_level}
+use Rattle.lego_laws.specs.Derivations.{HasLocal, d_prop, d_univ, d_cum, d_var, d_const}
+use Rattle.lego_laws.specs.Ranges.{levels_bound, level_bound, locals_bound, Context, Solution, FitsBetween, raised_level}
 use Rattle.lego_laws.proofs.Below.{under-below}
 use Rattle.lego_laws.proofs.Mapping.{map-lift}
 use Rattle.lego_laws.proofs.Bounded.{generation_up}

@@ -1,5 +1,5 @@
 -- Constraints of a pair, and of a term against a wanted type.
-use Rattle.std.proofs.Common.{◌≡◌, ℕ, suc, ◌≤◌, max, List, [], ◌∷◌, ◌++◌, map, get_or, ◌↔◌, refl, sym, ap₂, ◌∙◌, arith, Option}
+use Rattle.std.proofs.Common.{ℕ, ◌≤◌, List, [], ◌∷◌, ◌++◌, map, get_or, ◌↔◌, refl, sym, ap₂, ◌∙◌, arith, Option}
 use Rattle.lego_term.specs.declared.binder.Binder.{Binder}
 use Rattle.lego_term.specs.declared.level.Level.{Level}
 use Rattle.lego_term.specs.Levels.{Assignment, level_value, LevelPair, SatisfiesAll}

@@ -1,10 +1,10 @@
 -- A derivation by the rules is bounded by its greatest universe.
-use Rattle.std.proofs.Common.{◌≡◌, ℕ, suc, ◌≤◌, max, List, [], ◌∷◌, ◌++◌, fold, refl, ap, ◌∙◌, arith}
-use Rattle.lego_term.specs.Trees.{Tree, Term, Var, Const, Prop, Univ, Pi, Lam, App, Sigma, Pair, Fst, Snd, levels_of}
+use Rattle.std.proofs.Common.{ℕ, ◌≤◌, List, [], ◌∷◌, arith}
+use Rattle.lego_term.specs.Trees.{Term, Univ}
 use Rattle.lego_laws.specs.Entries.{Constant, constant_of, bodies_of}
 use Rattle.lego_laws.specs.Judgement.{Valid, Has}
 use Rattle.lego_laws.specs.Derivations.{types_of}
-use Rattle.lego_laws.specs.Fitting.{highest, top, top_valid}
+use Rattle.lego_laws.specs.Fitting.{top, top_valid}
 use Rattle.lego_laws.specs.Ranges.{Bounded, b_prop, b_univ, b_var, b_const, b_pi_prop, b_pi, b_lam, b_app, b_sigma, b_pair, b_fst, b_snd, b_cum}
 use Rattle.lego_laws.proofs.Rules.{local_at, type_in_list}
 use Rattle.lego_laws.proofs.Highest.{has_under}

@@ -1,14 +1,13 @@
 -- Head forms are below each other exactly by their parts.
-use Rattle.std.proofs.Common.{◌≡◌, ℕ, Option, Some, None, refl, ap, option_map, arith}
+use Rattle.std.proofs.Common.{ℕ, arith}
 use Rattle.lego_term.specs.Trees.{Term, Var, Const, Prop, Univ, Pi, Lam, App, Sigma, Pair, Fst, Snd}
 use Rattle.lego_laws.specs.Parallel.{TermBodies, ParallelStep, p_var, p_const, p_prop, p_univ, p_pi, p_lam, p_app, p_sigma, p_pair, p_fst, p_snd, p_beta, p_first, p_second, p_unfold, Star, stop, go}
-use Rattle.lego_term.specs.Steps.{Step, Converts}
+use Rattle.lego_term.specs.Steps.{Converts}
 use Rattle.lego_term.specs.Below.{Below}
-use Rattle.lego_term.specs.Sequences.{head_step}
 use Rattle.lego_laws.specs.HeadForms.{IsHeadForm, PartsBelow, at_var, at_const, at_prop, at_prop_univ, at_univ, at_pi, at_lam, at_app, at_sigma, at_pair, at_fst, at_snd, HeadFormsCompare}
 use Rattle.lego_laws.specs.Cumulativity.{ByForm}
 use Rattle.lego_laws.proofs.CommonReducts.{lam_same, app_same, pair_same, fst_same, snd_same}
-use Rattle.lego_laws.proofs.Stuck.{Kept, kept}
+use Rattle.lego_laws.proofs.Stuck.{kept}
 use Rattle.lego_laws.proofs.Below.{meets, convert_joined, below_of, under-below}
 
 -- runs in the parts

@@ -1,6 +1,6 @@
 -- Head steps are steps.
-use Rattle.std.proofs.Common.{◌≡◌, ℕ, zero, suc, Option, Some, None, option_map, option_and_then, refl, ap, ◌∙◌, ◌⊎◌, inl, inr}
-use Rattle.lego_term.specs.Trees.{Tree, Const, Lam, App, Pair, Fst, Snd, Bodies, instantiate}
+use Rattle.std.proofs.Common.{◌≡◌, ℕ, zero, suc, Option, Some, None, option_map, option_and_then, refl, ◌⊎◌, inl, inr}
+use Rattle.lego_term.specs.Trees.{Tree, Const, Lam, App, Pair, Fst, Snd, Bodies}
 use Rattle.lego_term.specs.Steps.{Contracts, Step}
 use Rattle.lego_term.specs.Sequences.{or_else, contract_app, contract_fst, contract_snd, head_step, after}
 use Rattle.lego_laws.specs.Parallel.{Star, stop, go}

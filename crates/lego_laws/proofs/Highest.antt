@@ -1,5 +1,5 @@
 -- The greatest universe of a term, and what a derivation's greatest universe bounds.
-use Rattle.std.proofs.Common.{◌≡◌, ℕ, zero, suc, ◌+◌, ◌≤◌, max, Option, Some, List, [], ◌∷◌, ◌++◌, fold, slice_get, refl, sym, ap, ◌∙◌, arith}
+use Rattle.std.proofs.Common.{◌≡◌, ℕ, suc, ◌≤◌, max, List, [], ◌∷◌, ◌++◌, fold, refl, arith}
 use Rattle.std.proofs.lemmas.List.Sums.{fold-append}
 use Rattle.std.proofs.lemmas.Bool.Decides.{nat_tests}
 use Rattle.lego_term.specs.Trees.{Term, Var, Const, Prop, Univ, Pi, Lam, App, Sigma, Pair, Fst, Snd, levels_of, lift, put, put_var, instantiate}
@@ -38,8 +38,8 @@ fold_from (App k a r) i = from_both i (levels_of a) (levels_of r) (high a) (high
 fold_from (Sigma x a r) i = from_both i (levels_of a) (levels_of r) (high a) (high r) (fold_from a) (fold_from r)
 fold_from (Pair x a r m n) i =
     let e = from_both i (levels_of a ++ levels_of r ++ levels_of m) (levels_of n) (max (max (high a) (high r)) (high m)) (high n)
-        (λ k. from_both k (levels_of a ++ levels_of r) (levels_of m) (max (high a) (high r)) (high m)
-        (λ l. from_both l (levels_of a) (levels_of r) (high a) (high r) (fold_from a) (fold_from r)) (fold_from m)) (fold_from n) in
+    (λ k. from_both k (levels_of a ++ levels_of r) (levels_of m) (max (high a) (high r)) (high m)
+    (λ l. from_both l (levels_of a) (levels_of r) (high a) (high r) (fold_from a) (fold_from r)) (fold_from m)) (fold_from n) in
     omega arith
 fold_from (Fst m) i = fold_from m i
 fold_from (Snd m) i = fold_from m i

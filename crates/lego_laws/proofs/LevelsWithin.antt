@@ -64,4 +64,3 @@ levels-step top h (Step.snd_operand s) l = levels-step top h s l
 pub levels-star : {b : CoreBodies} (top : ℕ) → ((k : ℕ) (t : Core) → b k ≡ Some t → levels_bound t ≤ top) → {t u : Core} → Star (Step b) t u → levels_bound t ≤ top → levels_bound u ≤ top
 levels-star top h stop l = l
 levels-star top h (go s p) l = levels-star top h p (levels-step top h s l)
-

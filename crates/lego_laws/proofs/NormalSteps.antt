@@ -1,12 +1,12 @@
 -- Steps of the normalisation sequence are steps, and those of a head form stay inside its parts.
-use Rattle.std.proofs.Common.{◌≡◌, ℕ, Option, Some, None, option_map, ◌⊎◌, inl, inr, refl, ap, ◌∙◌}
+use Rattle.std.proofs.Common.{◌≡◌, Option, Some, None, option_map, inl, inr, refl, ap}
 use Rattle.lego_term.specs.Trees.{Tree, Var, Const, Prop, Univ, Pi, Lam, App, Sigma, Pair, Fst, Snd, Bodies}
 use Rattle.lego_term.specs.Steps.{Contracts, Step}
-use Rattle.lego_term.specs.Sequences.{or_else, contract_app, contract_fst, contract_snd, head_step, normal_step}
+use Rattle.lego_term.specs.Sequences.{or_else, head_step, normal_step}
 use Rattle.lego_laws.specs.HeadForms.{IsHeadForm}
 use Rattle.lego_laws.proofs.CommonReducts.{step-parallel}
 use Rattle.lego_laws.proofs.HeadSteps.{either_some, mapped_from, head_step-step}
-use Rattle.lego_laws.proofs.Stuck.{IsLam, IsPair, app_stuck, app_stands, fst_stuck, fst_stands, snd_stuck, snd_stands, kept}
+use Rattle.lego_laws.proofs.Stuck.{IsLam, IsPair, app_stands, fst_stands, snd_stands, kept}
 
 module _ {B M L : Type 0} (b : Bodies B M L) where
   under : (f : Tree B M L → Tree B M L) (o : Option (Tree B M L)) (t u : Tree B M L) → ((x y : Tree B M L) → Step b x y → Step b (f x) (f y)) → ((x : Tree B M L) → o ≡ Some x → Step b t x) → option_map f o ≡ Some u → Step b (f t) u

@@ -1,6 +1,5 @@
 -- A derivation under a replacement of the constants.
-use Rattle.std.proofs.Common.{◌≡◌, ℕ, zero, suc, Bool, true, false, cond, nat_eq, IsTrue, Option, Some, None, List, [], ◌∷◌, refl, sym, ap, ap₂, ◌∙◌, arith, subst}
-use Rattle.std.proofs.lemmas.Bool.Decides.{nat_tests}
+use Rattle.std.proofs.Common.{◌≡◌, ℕ, zero, suc, Some, List, [], ◌∷◌, refl, sym, ap, ap₂, ◌∙◌}
 use mathlib.Core.Path.{fun_ext}
 use Rattle.lego_term.specs.Trees.{Term, Var, Const, Prop, Univ, Pi, Lam, App, Sigma, Pair, Fst, Snd, lift, instantiate, loose}
 use Rattle.lego_laws.specs.Parallel.{TermBodies, AreClosed}
@@ -8,7 +7,6 @@ use Rattle.lego_term.specs.Steps.{Step, Contracts, Converts}
 use Rattle.lego_term.specs.Below.{Below}
 use Rattle.lego_laws.specs.Derivations.{HasLocal, Derives, d_prop, d_univ, d_var, d_const, d_pi_prop, d_pi, d_lam, d_app, d_sigma, d_pair, d_fst, d_snd, d_cum}
 use Rattle.lego_laws.specs.Replacement.{raised, replace, under_locals, replaced_locals}
-use Rattle.lego_laws.specs.Strengthening.{Mentions}
 use Rattle.lego_laws.proofs.Subst.{rename, up_ren, substitute, up, one, rename_is, rename-rename, substitute-rename, rename-substitute, substitute_var, instantiate_is}
 use Rattle.lego_laws.proofs.Parallel.{closed_rename}
 use Rattle.lego_laws.proofs.Renaming.{lift_one, d-thin}

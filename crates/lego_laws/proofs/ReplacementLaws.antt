@@ -1,14 +1,13 @@
 -- Replacement, for the thirteen rules.
-use Rattle.std.proofs.Common.{◌≡◌, ℕ, Option, Some, None, IfSome, List, [], ◌∷◌, ◌∙◌, subst}
-use Rattle.lego_term.specs.Trees.{Term, Univ}
+use Rattle.std.proofs.Common.{◌≡◌, ℕ, Option, Some, None, IfSome, List, subst}
+use Rattle.lego_term.specs.Trees.{Term}
 use Rattle.lego_term.specs.Steps.{Converts}
-use Rattle.lego_laws.specs.Parallel.{AreClosed}
 use Rattle.lego_laws.specs.Entries.{Constant, constant_of, bodies_of}
 use Rattle.lego_laws.specs.Judgement.{Valid, Has}
 use Rattle.lego_laws.specs.Valid.{AreValid}
-use Rattle.lego_laws.specs.Derivations.{types_of, Derives, ValidLocals, v_none, v_local, ValidConstants}
+use Rattle.lego_laws.specs.Derivations.{types_of, Derives, ValidLocals, v_none, v_local}
 use Rattle.lego_laws.specs.Replacement.{replace, under_locals, replaced_locals, Replaces, Replacement}
-use Rattle.lego_laws.proofs.Rules.{Known, known, derived, judged, valid_locals, type_from}
+use Rattle.lego_laws.proofs.Rules.{known, derived, judged, valid_locals, type_from}
 use Rattle.lego_laws.proofs.Entries.{types_closed, bodies_closed, body_from}
 use Rattle.lego_laws.proofs.TypingLaws.{constants_valid}
 use Rattle.lego_laws.proofs.Replaced.{Stands, r-derives}

@@ -1,22 +1,21 @@
 -- Values for the new level variables of one part after another.
-use Rattle.std.proofs.Common.{◌≡◌, ℕ, suc, ◌≤◌, max, List, [], ◌∷◌, ◌++◌, map, get_or, ⊎_elim, refl, sym, ap, ◌∙◌, arith, subst, Option, Some, None}
+use Rattle.std.proofs.Common.{◌≡◌, ℕ, ◌≤◌, max, List, [], ◌∷◌, ◌++◌, map, get_or, ⊎_elim, refl, sym, arith, subst, Option, Some, None}
 use Rattle.std.proofs.lemmas.Bool.{cases_lt}
 use Rattle.lego_term.specs.declared.level.Level.{Level}
 use Rattle.lego_term.specs.Levels.{Assignment, level_value, LevelPair, SatisfiesAll}
-use Rattle.lego_term.specs.Trees.{Core, Term, Prop, Univ, at}
+use Rattle.lego_term.specs.Trees.{Core, Term, Univ, at}
 use Rattle.lego_term.specs.Steps.{Step, Converts}
 use Rattle.lego_term.specs.Below.{Below}
 use Rattle.lego_term.specs.Sequences.{HeadForm}
 use Rattle.lego_laws.specs.Parallel.{TermBodies, CoreBodies, AreClosed, Star, stop, go, bodies_at}
-use Rattle.lego_laws.specs.Cumulativity.{ByForm}
 use Rattle.lego_laws.specs.Derivations.{Derives, d_univ, d_cum, ValidLocals, ValidConstants}
 use Rattle.lego_laws.specs.Ranges.{levels_bound, level_bound, pairs_bound, locals_bound, Agree, Bounded, Context, Solution, FitsBetween, sort_term, sort_at_most}
-use Rattle.lego_laws.proofs.CommonReducts.{step-parallel, convert_run}
-use Rattle.lego_laws.proofs.Below.{under-below, universes_invert}
+use Rattle.lego_laws.proofs.CommonReducts.{step-parallel}
+use Rattle.lego_laws.proofs.Below.{universes_invert}
 use Rattle.lego_laws.proofs.TypedSteps.{subject_reduction}
 use Rattle.lego_laws.proofs.HeadSteps.{head_steps}
 use Rattle.lego_laws.proofs.Mapping.{step-map}
-use Rattle.lego_laws.proofs.Valued.{closed_valued, head_form_converts}
+use Rattle.lego_laws.proofs.Valued.{head_form_converts}
 use Rattle.lego_laws.proofs.LevelsWithin.{levels-star}
 use Rattle.lego_laws.proofs.Agreeing.{narrower, at_agree, value_agree, satisfies_agree, bodies_agree, locals_agree, moved, agree_both}
 use Rattle.lego_laws.proofs.Satisfying.{satisfies_append}

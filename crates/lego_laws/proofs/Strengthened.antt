@@ -1,6 +1,6 @@
 -- A derivation without the constants that are not reached.
 use Rattle.std.specs.List.{AllByRecursion}
-use Rattle.std.proofs.Common.{◌≡◌, Some, IsTrue, ◌∷◌, ℕ, suc, Bool, true, false, List, ◌∙◌, subst, nat_lt, nat_eq, cond}
+use Rattle.std.proofs.Common.{◌≡◌, Some, IsTrue, ℕ, suc, Bool, true, false, List, ◌∙◌, subst, nat_lt, nat_eq, cond}
 use Rattle.lego_term.specs.Trees.{Term, Var, Const, Prop, Univ, Pi, Lam, App, Sigma, Pair, Fst, Snd, lift, put, put_var, instantiate}
 use Rattle.lego_laws.specs.Parallel.{TermBodies, AreClosed, ParallelStep, p_var, p_const, p_prop, p_univ, p_pi, p_lam, p_app, p_sigma, p_pair, p_fst, p_snd, p_beta, p_first, p_second, p_unfold, Star, stop, go}
 use Rattle.lego_term.specs.Steps.{Converts}

@@ -1,15 +1,14 @@
 -- Strengthening, for the thirteen rules.
-use Rattle.std.proofs.Common.{◌≡◌, ℕ, Bool, true, false, cond, nat_eq, IsTrue, Option, Some, None, option_map, option_and_then, IfSome, List, [], ◌∷◌, ◌⊎◌, inl, inr, refl, sym, ap, ◌∙◌, arith, subst}
+use Rattle.std.proofs.Common.{◌≡◌, ℕ, Bool, true, false, cond, nat_eq, IsTrue, Option, Some, None, option_map, option_and_then, IfSome, List, [], inl, inr, refl, sym, ap, ◌∙◌, arith, subst}
 use Rattle.std.proofs.lemmas.Bool.Decides.{nat_tests}
 use Rattle.std.specs.List.{AllByRecursion}
 use Rattle.lego_term.specs.Trees.{Term, Univ}
-use Rattle.lego_laws.specs.Parallel.{AreClosed}
 use Rattle.lego_laws.specs.Entries.{Constant, constant_of, bodies_of}
 use Rattle.lego_laws.specs.Judgement.{Valid, Has}
-use Rattle.lego_laws.specs.Valid.{AreValid, BodiesFit}
-use Rattle.lego_laws.specs.Derivations.{types_of, Derives, ValidLocals, v_none, v_local, ValidConstants}
+use Rattle.lego_laws.specs.Valid.{AreValid}
+use Rattle.lego_laws.specs.Derivations.{types_of, Derives, ValidLocals, v_none, v_local}
 use Rattle.lego_laws.specs.Strengthening.{Mentions, EntryMentions, Drops, nothing, keeps, drops, DroppedListsAreValid, Strengthening}
-use Rattle.lego_laws.proofs.Rules.{known, derived, judged, list_valid, valid_locals, type_from}
+use Rattle.lego_laws.proofs.Rules.{known, derived, judged, valid_locals, type_from}
 use Rattle.lego_laws.proofs.Entries.{types_closed, bodies_closed, body_from, found}
 use Rattle.lego_laws.proofs.TypingLaws.{constants_valid}
 use Rattle.lego_laws.proofs.ExpansionLaws.{tail_valid, newest_type}

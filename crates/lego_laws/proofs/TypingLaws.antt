@@ -1,14 +1,14 @@
 -- The laws of derivations, for the thirteen rules.
-use Rattle.std.proofs.Common.{◌≡◌, ℕ, suc, Option, Some, None, List, [], ◌∷◌, slice_get, inl, inr, sym, subst, IfSome}
+use Rattle.std.proofs.Common.{ℕ, Option, Some, None, List, [], ◌∷◌, inl, inr, sym, subst, IfSome}
 use Rattle.lego_term.specs.Trees.{Term, Var, Const, Prop, Univ, Pi, Lam, App, Sigma, Pair, Fst, Snd, lift, instantiate}
 use Rattle.lego_term.specs.Below.{Below}
 use Rattle.lego_laws.specs.Parallel.{ParallelStep, AreClosed}
 use Rattle.lego_laws.specs.Entries.{Constant, constant_of, bodies_of}
 use Rattle.lego_laws.specs.Judgement.{Valid, Has, IsType}
 use Rattle.lego_laws.specs.Valid.{AreValid, BodiesFit}
-use Rattle.lego_laws.specs.Derivations.{types_of, HasLocal, Derives, Generated, ValidLocals, v_local, ValidConstants}
+use Rattle.lego_laws.specs.Derivations.{types_of, Derives, Generated, ValidLocals, v_local, ValidConstants}
 use Rattle.lego_laws.specs.Typing.{RulesAreDerivations, JudgementsStandInValidLists, Thinning, ThinningByConstants, Substitution, Narrowing, TypeCorrectness, SubjectReduction, Generates, Generation}
-use Rattle.lego_laws.proofs.Rules.{ValidTypes, Known, known, derived, judged, list_valid, valid_locals, place_of, type_from}
+use Rattle.lego_laws.proofs.Rules.{known, derived, judged, list_valid, valid_locals, place_of, type_from}
 use Rattle.lego_laws.proofs.Entries.{HasItsType, ValidBodies, valid_constants, types_closed, bodies_closed, more_derives, more_locals, types_kept, bodies_kept}
 use Rattle.lego_laws.proofs.Renaming.{d-thin, d-instantiate, d-narrow}
 use Rattle.lego_laws.proofs.Inversion.{generation, type_correct}

@@ -1,11 +1,11 @@
 -- Terms at an assignment, and with a number for each level.
-use Rattle.std.proofs.Common.{◌≡◌, ℕ, zero, suc, max, pred, Option, Some, None, option_map, List, [], ◌∷◌, ◌++◌, refl, sym, ap, ◌∙◌, arith}
+use Rattle.std.proofs.Common.{◌≡◌, ℕ, Option, Some, None, option_map, refl, sym, ap, ◌∙◌}
 use Rattle.lego_term.specs.declared.level.Level.{Level}
-use Rattle.lego_term.specs.Levels.{Assignment, level_value, LevelPair, SatisfiesAll}
-use Rattle.lego_term.specs.Trees.{Tree, Core, Term, Var, Const, Prop, Univ, Pi, Lam, App, Sigma, Pair, Fst, Snd, Bodies, loose, map_tree, Equal, at, instantiate}
-use Rattle.lego_term.specs.Steps.{Step, Converts}
-use Rattle.lego_term.specs.Sequences.{head_step, after, Ends, HeadForm}
-use Rattle.lego_laws.specs.Parallel.{AreClosed, CoreBodies, Star, stop, go, bodies_at}
+use Rattle.lego_term.specs.Levels.{level_value}
+use Rattle.lego_term.specs.Trees.{Tree, Core, Var, Const, Prop, Univ, Pi, Lam, App, Sigma, Pair, Fst, Snd, loose, map_tree, Equal}
+use Rattle.lego_term.specs.Steps.{Converts}
+use Rattle.lego_term.specs.Sequences.{HeadForm}
+use Rattle.lego_laws.specs.Parallel.{AreClosed, CoreBodies}
 use Rattle.lego_laws.specs.HeadForms.{IsHeadForm}
 use Rattle.lego_laws.specs.Comparison.{valued, bodies_valued}
 use Rattle.lego_laws.specs.Confluence.{StepsKeepAtValues}

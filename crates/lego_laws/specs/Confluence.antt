@@ -3,8 +3,8 @@ use Rattle.std.specs.Prelude.{ℕ}
 use Rattle.lego_term.specs.declared.binder.Binder.{Binder}
 use Rattle.lego_term.specs.declared.binder.Mark.{Mark}
 use Rattle.lego_term.specs.declared.level.Level.{Level}
-use Rattle.lego_term.specs.Levels.{Assignment, level_value}
-use Rattle.lego_term.specs.Trees.{Tree, Core, Term, Bodies, lift, instantiate, at}
+use Rattle.lego_term.specs.Levels.{Assignment}
+use Rattle.lego_term.specs.Trees.{Tree, Core, Bodies, lift, instantiate, at}
 use Rattle.lego_term.specs.Steps.{Step, Converts}
 use Rattle.lego_laws.specs.Parallel.{AreClosed, ParallelStep, Star, CoreBodies, bodies_at}
 

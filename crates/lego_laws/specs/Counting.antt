@@ -1,5 +1,5 @@
 -- The steps of a walk through two terms are among those of their normalisation sequences.
-use Rattle.std.specs.Prelude.{◌≡◌, ℕ, ◌+◌, ◌≤◌, ◌<◌, Some, List, [], ◌∷◌}
+use Rattle.std.specs.Prelude.{◌≡◌, ℕ, ◌+◌, ◌≤◌, ◌<◌, Some, List, ◌∷◌}
 use Rattle.lego_term.specs.Trees.{Core}
 use Rattle.lego_term.specs.Parts.{Branch, parts_of}
 use Rattle.lego_term.specs.Sequences.{head_step, normal_step, after, Ends, CostMoreThan}

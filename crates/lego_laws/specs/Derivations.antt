@@ -1,5 +1,5 @@
 -- Derivations over fixed constants: the thirteen rules without the validity of lists, a tool of proofs.
-use Rattle.std.specs.Prelude.{◌≡◌, ℕ, zero, suc, Some, Option, option_map, List, [], ◌∷◌, ◌⊎◌}
+use Rattle.std.specs.Prelude.{◌≡◌, ℕ, zero, suc, Some, option_map, List, [], ◌∷◌, ◌⊎◌}
 use Rattle.lego_term.specs.Trees.{Term, Var, Const, Prop, Univ, Pi, Lam, App, Sigma, Pair, Fst, Snd, instantiate, lift}
 use Rattle.lego_term.specs.Below.{Below}
 use Rattle.lego_laws.specs.Parallel.{TermBodies}

@@ -1,5 +1,5 @@
 -- Constraints of a term whose new level variables are those of a range.
-use Rattle.std.specs.Prelude.{◌≡◌, ℕ, suc, ◌≤◌, Option, Some, None, option_map, List, [], ◌∷◌, ◌⊎◌, max, map, get_or}
+use Rattle.std.specs.Prelude.{◌≡◌, ℕ, suc, ◌≤◌, Option, Some, None, List, [], ◌∷◌, ◌⊎◌, max, map, get_or}
 use Rattle.lego_term.specs.declared.level.Level.{Level}
 use Rattle.lego_term.specs.Levels.{Assignment, LevelPair, SatisfiesAll}
 use Rattle.lego_term.specs.Trees.{Core, Term, Var, Const, Prop, Univ, Pi, Lam, App, Sigma, Pair, Fst, Snd, instantiate, at}

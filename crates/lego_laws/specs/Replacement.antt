@@ -1,5 +1,5 @@
 -- Constants replaced by terms with variables of an outer list of locals.
-use Rattle.std.specs.Prelude.{◌≡◌, ℕ, ◌+◌, ◌≤◌, Option, Some, option_map, unwrap_or, List, [], ◌∷◌, ◌++◌, IfSome}
+use Rattle.std.specs.Prelude.{◌≡◌, ℕ, Some, option_map, unwrap_or, List, [], ◌∷◌, IfSome}
 use Rattle.lego_term.specs.Trees.{Tree, Term, Var, Const, Prop, Univ, Pi, Lam, App, Sigma, Pair, Fst, Snd, lift, loose, listed_variable, close_over}
 use Rattle.lego_term.specs.Steps.{Converts}
 use Rattle.lego_laws.specs.Entries.{Constant, constant_of, bodies_of}

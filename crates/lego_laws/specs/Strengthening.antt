@@ -1,10 +1,9 @@
 -- Constants that a judgement can do without.
-use Rattle.std.specs.Prelude.{◌≡◌, ℕ, Bool, true, Option, Some, List, [], ◌∷◌, IsTrue, IfSome}
+use Rattle.std.specs.Prelude.{ℕ, Bool, List, [], ◌∷◌, IsTrue, IfSome}
 use Rattle.std.specs.List.{AllByRecursion}
 use Rattle.lego_term.specs.Trees.{Tree, Term, Var, Const, Prop, Univ, Pi, Lam, App, Sigma, Pair, Fst, Snd}
-use Rattle.lego_laws.specs.Parallel.{TermBodies, AreClosed}
-use Rattle.lego_laws.specs.Entries.{Constant, constant_of}
-use Rattle.lego_laws.specs.Judgement.{Valid, Has}
+use Rattle.lego_laws.specs.Entries.{Constant}
+use Rattle.lego_laws.specs.Judgement.{Has}
 use Rattle.lego_laws.specs.Valid.{AreValid}
 
 -- the term mentions kept constants alone

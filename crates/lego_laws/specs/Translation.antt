@@ -6,7 +6,6 @@ use Rattle.lego_laws.specs.Parallel.{TermBodies, AreClosed}
 use Rattle.lego_laws.specs.Entries.{Constant, constant_of, bodies_of}
 use Rattle.lego_laws.specs.Judgement.{Has}
 use Rattle.lego_laws.specs.Valid.{AreValid}
-use Rattle.lego_laws.specs.Derivations.{Derives}
 
 -- what stands for a constant: the term that replaces it, or itself
 abbrev pub standing : TermBodies → ℕ → Term

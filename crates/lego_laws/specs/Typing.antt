@@ -1,5 +1,5 @@
 -- The laws of the thirteen rules.
-use Rattle.std.specs.Prelude.{◌≡◌, ℕ, suc, ◌+◌, Some, List, [], ◌∷◌, ◌++◌, slice_get, ◌↔◌, ◌⊎◌, map, length}
+use Rattle.std.specs.Prelude.{◌≡◌, ℕ, suc, Some, List, [], ◌∷◌, slice_get, ◌↔◌, ◌⊎◌}
 use Rattle.lego_term.specs.Trees.{Term, Var, Const, Prop, Univ, Pi, Lam, App, Sigma, Pair, Fst, Snd, lift, instantiate}
 use Rattle.lego_term.specs.Below.{Below}
 use Rattle.lego_laws.specs.Parallel.{ParallelStep}
