@@ -7,9 +7,9 @@ use Rattle.lego_term.specs.Steps.{Step, Contracts, Converts}
 use Rattle.lego_term.specs.Below.{Below}
 use Rattle.lego_laws.specs.Derivations.{HasLocal, Derives, d_prop, d_univ, d_var, d_const, d_pi_prop, d_pi, d_lam, d_app, d_sigma, d_pair, d_fst, d_snd, d_cum}
 use Rattle.lego_laws.specs.Replacement.{raised, replace, under_locals, replaced_locals}
-use Rattle.lego_laws.proofs.Subst.{rename, up_ren, substitute, up, one, rename_is, rename-rename, substitute-rename, rename-substitute, substitute_var, instantiate_is}
+use Rattle.lego_laws.proofs.Subst.{rename, up_ren, substitute, up, one, rename_is, rename-rename, substitute-rename, rename-substitute, substitute_var, instantiate_is, lift_one}
 use Rattle.lego_laws.proofs.Parallel.{closed_rename}
-use Rattle.lego_laws.proofs.Renaming.{lift_one, d-thin}
+use Rattle.lego_laws.proofs.Renaming.{d-thin}
 use Rattle.lego_laws.proofs.Substituted.{convert-substitute}
 use Rattle.lego_laws.proofs.CommonReducts.{convert_map}
 

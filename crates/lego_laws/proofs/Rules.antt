@@ -5,14 +5,7 @@ use Rattle.lego_term.specs.Trees.{Term, Var, Const, Univ, lift}
 use Rattle.lego_laws.specs.Derivations.{types_of, HasLocal, Derives, d_prop, d_univ, d_var, d_const, d_pi_prop, d_pi, d_lam, d_app, d_sigma, d_pair, d_fst, d_snd, d_cum, ValidLocals, v_none, v_local}
 use Rattle.lego_laws.specs.Entries.{Constant, constant_of, bodies_of}
 use Rattle.lego_laws.specs.Judgement.{Valid, Has}
-use Rattle.lego_laws.proofs.Subst.{rename, rename-rename, lift_is, raise}
-use Rattle.lego_laws.proofs.Renaming.{lift_one}
-
--- lifting by one more
-lift_more : (i : ℕ) (a : Term) → lift 0 1 (lift 0 i a) ≡ lift 0 (suc i) a
-lift_more i a =
-    let e : (λ n. suc (raise 0 i n)) ≡ raise 0 (suc i) = fun_ext (λ n. grind arith) in
-    lift_one (lift 0 i a) ∙ ap (rename suc) (lift_is 0 i a) ∙ rename-rename suc (raise 0 i) a ∙ ap (λ f. rename f a) e ∙ sym (lift_is 0 (suc i) a)
+use Rattle.lego_laws.proofs.Subst.{lift_more}
 
 -- a local's type by its place in the list, and the other way round
 pub local_at : (g : List Term) (i : ℕ) (a : Term) → slice_get g i ≡ Some a → HasLocal g i (lift 0 (suc i) a)

@@ -206,3 +206,14 @@ substitute-instantiate s m n =
     ap (substitute s) (instantiate_is m n) ∙ substitute-substitute s (one n) m
     ∙ ap (λ r. substitute r m) (sym (one-up s n)) ∙ sym (substitute-substitute (one (substitute s n)) (up s) m)
     ∙ sym (instantiate_is (substitute (up s) m) (substitute s n))
+
+-- lifting by one, and by one more
+pub lift_one : {B M L : Type 0} → (t : Tree B M L) → lift 0 1 t ≡ rename suc t
+lift_one t =
+    let e : raise 0 1 ≡ suc = fun_ext (λ i. grind arith) in
+    lift_is 0 1 t ∙ ap (λ f. rename f t) e
+
+pub lift_more : {B M L : Type 0} → (i : ℕ) (a : Tree B M L) → lift 0 1 (lift 0 i a) ≡ lift 0 (suc i) a
+lift_more i a =
+    let e : (λ n. suc (raise 0 i n)) ≡ raise 0 (suc i) = fun_ext (λ n. grind arith) in
+    lift_one (lift 0 i a) ∙ ap (rename suc) (lift_is 0 i a) ∙ rename-rename suc (raise 0 i) a ∙ ap (λ f. rename f a) e ∙ sym (lift_is 0 (suc i) a)
