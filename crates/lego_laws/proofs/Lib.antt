@@ -38,3 +38,4 @@ pub mod FitsBinder
 pub mod FitsLeaf
 pub mod FitsApp
 pub mod FitsPair
+pub mod InferenceLaws

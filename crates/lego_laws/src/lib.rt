@@ -4,6 +4,7 @@
 
 mod comparison;
 mod constants;
+mod inference;
 mod reduction;
 mod typing;
 
@@ -18,6 +19,11 @@ pub use comparison::{
 pub use constants::{
     closing_is_replacement, dropped_lists_are_valid, expansion, judgements_expand, replacement,
     strengthening, translation,
+};
+pub use inference::{
+    contexts_grow, contexts_widen, fits_against, fits_application, fits_by_others, fits_constant,
+    fits_first, fits_in_wider_range, fits_lambda, fits_pair, fits_product, fits_prop,
+    fits_proposition, fits_second, fits_sigma, fits_universe, fits_variable,
 };
 pub use reduction::{
     below_inverts, confluence, head_forms_compare, parallel_steps_meet, pi_inverts, sigma_inverts,
