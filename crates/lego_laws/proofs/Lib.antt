@@ -39,3 +39,4 @@ pub mod FitsLeaf
 pub mod FitsApp
 pub mod FitsPair
 pub mod InferenceLaws
+pub mod HeldVariables
