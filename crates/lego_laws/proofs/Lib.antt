@@ -40,3 +40,4 @@ pub mod FitsApp
 pub mod FitsPair
 pub mod InferenceLaws
 pub mod HeldVariables
+pub mod EntriesAt
