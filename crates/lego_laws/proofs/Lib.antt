@@ -41,3 +41,4 @@ pub mod FitsPair
 pub mod InferenceLaws
 pub mod HeldVariables
 pub mod EntriesAt
+pub mod HeldWithin
