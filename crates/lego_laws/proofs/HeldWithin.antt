@@ -21,7 +21,7 @@ use Rattle.lego_laws.proofs.EntriesAt.{types_at, bodies_at_values}
 use Rattle.lego_laws.proofs.HeldVariables.{or_left, or_right, or_cases, uses_within, over_within, at_same, locals_same, satisfies_same, entry_same}
 
 -- the values of the variables that a test finds, and 0 for all others
-abbrev only : (ℕ → Bool) → Assignment → Assignment
+abbrev pub only : (ℕ → Bool) → Assignment → Assignment
 only p [] = []
 only p (x ∷ v) = cond (p 0) x 0 ∷ only (λ u. p (suc u)) v
 
@@ -29,7 +29,7 @@ nothing_there : (u : ℕ) → get_or {A = ℕ} [] u 0 ≡ 0
 nothing_there zero = refl
 nothing_there (suc u) = refl
 
-only_found : (p : ℕ → Bool) (v : Assignment) (u : ℕ) → IsTrue (p u) → get_or v u 0 ≡ get_or (only p v) u 0
+pub only_found : (p : ℕ → Bool) (v : Assignment) (u : ℕ) → IsTrue (p u) → get_or v u 0 ≡ get_or (only p v) u 0
 only_found p [] u h = refl
 only_found p (x ∷ v) zero h = sym (ap (λ o. cond o x 0) h)
 only_found p (x ∷ v) (suc u) h = only_found (λ u. p (suc u)) v u h
@@ -38,7 +38,7 @@ choice_zero : (o : Bool) (x : ℕ) → (IsTrue o → ⊥) → cond o x 0 ≡ 0
 choice_zero true x h = absurd (h refl)
 choice_zero false x h = refl
 
-only_zero : (p : ℕ → Bool) (v : Assignment) (u : ℕ) → (IsTrue (p u) → ⊥) → get_or (only p v) u 0 ≡ 0
+pub only_zero : (p : ℕ → Bool) (v : Assignment) (u : ℕ) → (IsTrue (p u) → ⊥) → get_or (only p v) u 0 ≡ 0
 only_zero p [] u h = nothing_there u
 only_zero p (x ∷ v) zero h = choice_zero (p 0) x h
 only_zero p (x ∷ v) (suc u) h = only_zero (λ u. p (suc u)) v u h
@@ -67,6 +67,6 @@ terms_use_within u [] h = cc
 terms_use_within u (a ∷ g) h =
     ⊎_elim (λ (i : IsTrue (uses_level u a)). let w = uses_within u a i in omega arith) (λ (i : IsTrue (list_any (uses_level u) g)). let w = terms_use_within u g i in omega arith) (or_cases (uses_level u a) (list_any (uses_level u) g) h)
 
-held_within : (u n : ℕ) (es : List Entry) (g ms : List Core) → entries_bound es ≤ n → locals_bound g ≤ n → locals_bound ms ≤ n → IsHeld u es g ms → suc u ≤ n
+pub held_within : (u n : ℕ) (es : List Entry) (g ms : List Core) → entries_bound es ≤ n → locals_bound g ≤ n → locals_bound ms ≤ n → IsHeld u es g ms → suc u ≤ n
 held_within u n es g ms le lg lm h =
     ⊎_elim (λ (i : IsTrue (list_any (entry_uses u) es || list_any (uses_level u) g)). ⊎_elim (λ (j : IsTrue (list_any (entry_uses u) es)). let w = entries_use_within u es j in omega arith) (λ (j : IsTrue (list_any (uses_level u) g)). let w = terms_use_within u g j in omega arith) (or_cases (list_any (entry_uses u) es) (list_any (uses_level u) g) i)) (λ (i : IsTrue (list_any (uses_level u) ms)). let w = terms_use_within u ms i in omega arith) (or_cases (list_any (entry_uses u) es || list_any (uses_level u) g) (list_any (uses_level u) ms) h)

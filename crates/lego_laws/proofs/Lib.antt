@@ -42,3 +42,4 @@ pub mod InferenceLaws
 pub mod HeldVariables
 pub mod EntriesAt
 pub mod HeldWithin
+pub mod PrincipalLaws
