@@ -43,3 +43,5 @@ pub mod HeldVariables
 pub mod EntriesAt
 pub mod HeldWithin
 pub mod PrincipalLaws
+pub mod Bounding
+pub mod AtZero
