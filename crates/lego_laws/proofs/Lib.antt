@@ -45,3 +45,4 @@ pub mod HeldWithin
 pub mod PrincipalLaws
 pub mod Bounding
 pub mod AtZero
+pub mod Excluding

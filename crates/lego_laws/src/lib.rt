@@ -5,6 +5,7 @@
 mod comparison;
 mod constants;
 mod inference;
+mod principal;
 mod reduction;
 mod typing;
 
@@ -24,6 +25,11 @@ pub use inference::{
     contexts_grow, contexts_widen, fits_against, fits_application, fits_by_others, fits_constant,
     fits_first, fits_in_wider_range, fits_lambda, fits_pair, fits_product, fits_prop,
     fits_proposition, fits_second, fits_sigma, fits_universe, fits_variable,
+};
+pub use principal::{
+    argument_excludes, bodies_exclude, entries_are_a_context, entries_at_values, head_excludes,
+    mismatch_excludes, no_solution_excludes, no_type_excludes, parts_exclude, principal_checks,
+    principal_types,
 };
 pub use reduction::{
     below_inverts, confluence, head_forms_compare, parallel_steps_meet, pi_inverts, sigma_inverts,
