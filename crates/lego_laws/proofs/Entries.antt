@@ -96,7 +96,7 @@ ValidBodies [] = Unit {0}
 ValidBodies (x ∷ e) = HasItsType e x.body x.ty × ValidBodies e
 
 -- a new entry hides none
-entry_kept : (x : Constant) (e : List Constant) → constant_of e x.number ≡ None → (k : ℕ) (y : Constant) → constant_of e k ≡ Some y → constant_of (x ∷ e) k ≡ Some y
+pub entry_kept : (x : Constant) (e : List Constant) → constant_of e x.number ≡ None → (k : ℕ) (y : Constant) → constant_of e k ≡ Some y → constant_of (x ∷ e) k ≡ Some y
 entry_kept x e new k y h = grind (arith, nat_tests)
 
 pub body_from : (o : Option Constant) (t : Term) → option_and_then (λ e. e.body) o ≡ Some t → (y : Constant) × (o ≡ Some y) × (y.body ≡ Some t)
@@ -122,7 +122,7 @@ body_more : (e e' : List Constant) (o : Option Term) (a : Term) → Extends (typ
 body_more e e' None a x y h = tt
 body_more e e' (Some t) a x y h = more_derives x y h
 
-stands : (e : List Constant) → ValidTypes e → ValidBodies e → (k : ℕ) (y : Constant) → constant_of e k ≡ Some y → Stands e y
+pub stands : (e : List Constant) → ValidTypes e → ValidBodies e → (k : ℕ) (y : Constant) → constant_of e k ≡ Some y → Stands e y
 stands [] v w k y h = cc
 stands (x ∷ e) (new, d, v) (t, w) k y h =
     let xt = types_kept x e new in

@@ -46,3 +46,4 @@ pub mod PrincipalLaws
 pub mod Bounding
 pub mod AtZero
 pub mod Excluding
+pub mod Reordered
