@@ -5,16 +5,17 @@ use Rattle.lego_term.specs.Trees.{Term, Univ, replace_constants}
 use Rattle.lego_term.specs.Steps.{Converts}
 use Rattle.lego_laws.specs.Parallel.{TermBodies, AreClosed}
 use Rattle.lego_laws.specs.Entries.{Constant, constant_of, bodies_of}
-use Rattle.lego_laws.specs.Judgement.{Has}
-use Rattle.lego_laws.specs.Valid.{AreValid}
+use Rattle.lego_laws.specs.Judgement.{Valid, Has}
+use Rattle.lego_laws.specs.Valid.{AreValid, BodiesFit}
 use Rattle.lego_laws.specs.Derivations.{types_of, Derives}
 use Rattle.lego_laws.specs.Translation.{standing, StandsFor, Translation}
 use Rattle.lego_laws.specs.Expansion.{expansions, expand, expand_all, HasPurely, IsPureType, Expansion, JudgementsExpand}
-use Rattle.lego_laws.proofs.Rules.{known, derived, judged, valid_types, valid_locals, type_from}
-use Rattle.lego_laws.proofs.Entries.{valid_constants, types_closed, bodies_closed, body_from}
+use Rattle.lego_laws.specs.Orders.{fillings, fill, fill_all, FilledListsAreValid, JudgementsFill}
+use Rattle.lego_laws.proofs.Rules.{ValidTypes, known, derived, judged, valid_types, valid_locals, type_from}
+use Rattle.lego_laws.proofs.Entries.{HasItsType, ValidBodies, valid_constants, types_closed, bodies_closed, body_from}
 use Rattle.lego_laws.proofs.TypingLaws.{bodies_typed, constants_valid}
 use Rattle.lego_laws.proofs.Translated.{Translates, t-derives, t-locals}
-use Rattle.lego_laws.proofs.Expanded.{expands}
+use Rattle.lego_laws.proofs.Expanded.{FillsTo, expands, fills}
 
 body_converts : (es : List Constant) (s : TermBodies) (k : ℕ) (o : Option Term) (t : Term) → o ≡ Some t → IfSome o (λ m. Converts (bodies_of es) (standing s k) (replace_constants s m)) → Converts (bodies_of es) (standing s k) (replace_constants s t)
 body_converts es s k None t e h = cc
@@ -82,3 +83,26 @@ expansion (e ∷ before) x =
     let y = tail_valid e before x in
     let t = newest_type e before x in
     (none_pure before e.ty e.body (t.0, judgements_expand before y [] e.ty (Univ t.0) t.1), some_pure before y e.ty e.body x.bodies.0, expansion before y)
+
+has_body : (e : List Constant) → Valid e [] → (o : Option Term) (a : Term) → HasItsType e o a → IfSome o (λ m. Has e [] m a)
+has_body e v None a h = tt
+has_body e v (Some m) a h = judged h v
+
+pub bodies_judged : (e : List Constant) → ValidTypes e → ValidBodies e → BodiesFit e
+bodies_judged [] v h = tt
+bodies_judged (x ∷ e) v h = (has_body e (valid_types e v.2) x.body x.ty h.0, bodies_judged e v.2 h.1)
+
+pub filled_lists_are_valid : FilledListsAreValid
+filled_lists_are_valid chosen es x =
+    let z = fills chosen es (known x.valid).types (bodies_typed es x.bodies) in
+    record { valid = valid_types (fill_all chosen es) z.types; bodies = bodies_judged (fill_all chosen es) z.types z.bodies }
+
+pub judgements_fill : JudgementsFill
+judgements_fill chosen es x g m a d =
+    let z = fills chosen es (known x.valid).types (bodies_typed es x.bodies) in
+    let v = constants_valid es x in
+    let v' = valid_constants (fill_all chosen es) z.types z.bodies in
+    let h = derived d in
+    judged (t-derives (fillings chosen es) (types_of es) (bodies_of es) (types_of (fill_all chosen es)) (bodies_of (fill_all chosen es)) (types_closed v) (bodies_closed v) (types_closed v') (bodies_closed v') z.translates h.0)
+    (valid_locals (valid_types (fill_all chosen es) z.types)
+    (t-locals (fillings chosen es) (types_of es) (bodies_of es) (types_of (fill_all chosen es)) (bodies_of (fill_all chosen es)) (types_closed v) (bodies_closed v) (types_closed v') (bodies_closed v') z.translates h.1.locals))

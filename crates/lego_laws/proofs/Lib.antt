@@ -47,3 +47,5 @@ pub mod Bounding
 pub mod AtZero
 pub mod Excluding
 pub mod Reordered
+pub mod ReducedLists
+pub mod RuleTypesUnique
