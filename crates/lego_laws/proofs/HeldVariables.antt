@@ -20,11 +20,11 @@ pub or_cases : (a b : Bool) → IsTrue (a || b) → IsTrue a ⊎ IsTrue b
 or_cases true b h = inl h
 or_cases false b h = inr h
 
-any_front : {X : Type 0} (p : X → Bool) (xs ys : List X) → IsTrue (list_any p xs) → IsTrue (list_any p (xs ++ ys))
+pub any_front : {X : Type 0} (p : X → Bool) (xs ys : List X) → IsTrue (list_any p xs) → IsTrue (list_any p (xs ++ ys))
 any_front p [] ys h = cc
 any_front p (x ∷ xs) ys h = ⊎_elim (λ (k : IsTrue (p x)). or_left (p x) _ k) (λ (k : IsTrue (list_any p xs)). or_right (p x) _ (any_front p xs ys k)) (or_cases (p x) (list_any p xs) h)
 
-any_back : {X : Type 0} (p : X → Bool) (xs ys : List X) → IsTrue (list_any p ys) → IsTrue (list_any p (xs ++ ys))
+pub any_back : {X : Type 0} (p : X → Bool) (xs ys : List X) → IsTrue (list_any p ys) → IsTrue (list_any p (xs ++ ys))
 any_back p [] ys h = h
 any_back p (x ∷ xs) ys h = or_right (p x) _ (any_back p xs ys h)
 
@@ -33,7 +33,7 @@ any_split p [] ys h = inr h
 any_split p (x ∷ xs) ys h =
     ⊎_elim (λ (k : IsTrue (p x)). inl (or_left (p x) (list_any p xs) k)) (λ (k : IsTrue (list_any p (xs ++ ys))). ⊎_elim (λ (l : IsTrue (list_any p xs)). inl (or_right (p x) (list_any p xs) l)) (λ l. inr l) (any_split p xs ys k)) (or_cases (p x) (list_any p (xs ++ ys)) h)
 
-equal_test : (u : ℕ) → IsTrue (nat_eq u u)
+pub equal_test : (u : ℕ) → IsTrue (nat_eq u u)
 equal_test u = grind (arith, nat_tests)
 
 equal_from : (u w : ℕ) → IsTrue (nat_eq u w) → u ≡ w

@@ -49,3 +49,4 @@ pub mod Excluding
 pub mod Reordered
 pub mod ReducedLists
 pub mod RuleTypesUnique
+pub mod RuleTypesRenamed

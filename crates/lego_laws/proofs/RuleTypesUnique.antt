@@ -14,7 +14,6 @@ use Rattle.lego_laws.specs.RuleTypes.{RuleType}
 use Rattle.lego_laws.specs.RuleTypeLaws.{HeadFormsAreUnique, RuleTypesAreUnique, renamed_level, renamed, RuleTypesRename}
 use Rattle.lego_laws.proofs.Mapping.{map-lift, map-instantiate, mapped_bodies, head_step-map}
 use Rattle.lego_laws.proofs.After.{at_most, next, after_one}
-use Rattle.lego_laws.proofs.HeldVariables.{or_left, or_right, any_front, any_back, equal_test}
 
 some_is : {X : Type 0} {t u : X} → Some t ≡ Some u → t ≡ u
 some_is e = cc
@@ -38,7 +37,7 @@ pi_parts e = (cc, cc)
 sigma_parts : {x y : Binder} {a a' b b' : Core} → Sigma x a b ≡ Sigma y a' b' → (a ≡ a') × (b ≡ b')
 sigma_parts e = (cc, cc)
 
-same_entry : {es : List Entry} {k : ℕ} {e e' : Entry} → entry_of es k ≡ Some e → entry_of es k ≡ Some e' → e.ty ≡ e'.ty
+same_entry : {o : Option Entry} {e e' : Entry} → o ≡ Some e → o ≡ Some e' → e.ty ≡ e'.ty
 same_entry p q = ap (λ (e : Entry). e.ty) (some_is (sym p ∙ q))
 
 pub one_rule_type : {es : List Entry} {w : ℕ → ℕ} {g : List Core} {n : ℕ} {m a : Core} → RuleType es w g n m a → {a' : Core} → RuleType es w g n m a' → a ≡ a'
