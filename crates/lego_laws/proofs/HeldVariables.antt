@@ -62,8 +62,8 @@ uses_within u (App k a r) h = uses_both u (levels_of a) (levels_of r) (levels_bo
 uses_within u (Sigma x a r) h = uses_both u (levels_of a) (levels_of r) (levels_bound a) (levels_bound r) (uses_within u a) (uses_within u r) h
 uses_within u (Pair x a r m n) h =
     let e = uses_both u (levels_of a ++ levels_of r ++ levels_of m) (levels_of n) (max (max (levels_bound a) (levels_bound r)) (levels_bound m)) (levels_bound n)
-        (uses_both u (levels_of a ++ levels_of r) (levels_of m) (max (levels_bound a) (levels_bound r)) (levels_bound m)
-        (uses_both u (levels_of a) (levels_of r) (levels_bound a) (levels_bound r) (uses_within u a) (uses_within u r)) (uses_within u m)) (uses_within u n) h in
+    (uses_both u (levels_of a ++ levels_of r) (levels_of m) (max (levels_bound a) (levels_bound r)) (levels_bound m)
+    (uses_both u (levels_of a) (levels_of r) (levels_bound a) (levels_bound r) (uses_within u a) (uses_within u r)) (uses_within u m)) (uses_within u n) h in
     omega arith
 uses_within u (Fst m) h = uses_within u m h
 uses_within u (Snd m) h = uses_within u m h

@@ -1,5 +1,5 @@
 -- Constraints that fit in a range are sound and principal over the entries.
-use Rattle.std.proofs.Common.{◌≡◌, ℕ, suc, ◌≤◌, ◌<◌, max, ◌||◌, IsTrue, List, [], ◌∷◌, ◌++◌, map, reverse, get_or, ⊎_elim, refl, sym, ap, ap₂, ◌∙◌, arith, subst}
+use Rattle.std.proofs.Common.{◌≡◌, ℕ, suc, ◌≤◌, ◌<◌, max, ◌||◌, IsTrue, List, [], ◌∷◌, ◌++◌, map, reverse, get_or, Bool, true, false, ◌⊎◌, inl, inr, ⊎_elim, refl, sym, ap, ap₂, ◌∙◌, arith, subst}
 use Rattle.std.proofs.lemmas.Bool.{cases_lt}
 use Rattle.std.specs.List.{list_any}
 use Rattle.lego_term.specs.Levels.{Assignment, LevelPair, SatisfiesAll}
@@ -12,7 +12,7 @@ use Rattle.lego_laws.specs.Valid.{AreValid, AlwaysValid}
 use Rattle.lego_laws.specs.Derivations.{types_of, Derives, ValidLocals}
 use Rattle.lego_laws.specs.Fitting.{top, Extends, IsSound, Fits, FitsWanted}
 use Rattle.lego_laws.specs.Ranges.{levels_bound, pairs_bound, locals_bound, Agree, Bounded, Context, Solution, FitsBetween, FitsWantedBetween}
-use Rattle.lego_laws.specs.Principal.{core_types, entries_bound, PrincipalTypes, PrincipalChecks}
+use Rattle.lego_laws.specs.Principal.{core_types, entries_bound, PrincipalTypes, PrincipalChecks, SmallTypingsHaveSmallSolutions}
 use Rattle.lego_laws.proofs.Rules.{judged, valid_locals}
 use Rattle.lego_laws.proofs.Greatest.{bounded}
 use Rattle.lego_laws.proofs.Agreeing.{moved}
@@ -121,3 +121,18 @@ principal_checks es n n₁ always le g m a k x lm la f =
           let s = f.principal w (h₀ es n always le g x (m ∷ a ∷ []) (omega arith) v h) (top d) b in
           (s.w, extends es n always le g x (m ∷ a ∷ []) (omega arith) v h k (top d) s.w s.agree s.satisfies s.small);
     }
+
+-- whether the level variable is held
+held_or_not : (b : Bool) → IsTrue b ⊎ (IsTrue b → ⊥)
+held_or_not true = inl refl
+held_or_not false = inr (λ h. cc)
+
+pub small_typings_have_small_solutions : SmallTypingsHaveSmallSolutions
+small_typings_have_small_solutions es g m a k f limit v h small q d le =
+    let p = f.principal v h d in
+    (p.0, kept_same v p.0 es (λ u i. sym (p.1.same u (or_left _ _ (or_left _ _ i)))) h, p.1.satisfies, λ u. bound p.0 p.1 u)
+  where
+    bound : (w : Assignment) → Extends es g (m ∷ []) k v (top d) w → (u : ℕ) → get_or w u 0 ≤ limit
+    bound w e u =
+        ⊎_elim (λ (i : IsHeld u es g (m ∷ [])). let s = e.same u i in let z = small u in omega arith) (λ (i : IsHeld u es g (m ∷ []) → ⊥). let z = e.bounded u i in omega arith)
+        (held_or_not (list_any (entry_uses u) es || list_any (uses_level u) g || list_any (uses_level u) (m ∷ [])))

@@ -1,12 +1,13 @@
 -- Entries as a context, and constraints that fit over entries.
-use Rattle.std.specs.Prelude.{◌≡◌, ℕ, ◌≤◌, max, Option, Some, None, option_map, List, [], ◌∷◌}
-use Rattle.lego_term.specs.Levels.{Assignment, LevelPair}
-use Rattle.lego_term.specs.Trees.{Core, at}
+use Rattle.std.specs.Prelude.{◌≡◌, ℕ, ◌≤◌, max, Option, Some, None, option_map, List, [], ◌∷◌, map, get_or}
+use Rattle.lego_term.specs.Levels.{Assignment, LevelPair, SatisfiesAll}
+use Rattle.lego_term.specs.Trees.{Core, Term, at}
 use Rattle.lego_laws.specs.Parallel.{CoreBodies, AreClosed}
 use Rattle.lego_laws.specs.Entries.{Entry, entry_of, core_bodies, entries_at, bodies_of, kept}
+use Rattle.lego_laws.specs.Judgement.{Has}
 use Rattle.lego_laws.specs.Valid.{AreValid, AlwaysValid}
 use Rattle.lego_laws.specs.Derivations.{types_of}
-use Rattle.lego_laws.specs.Fitting.{Fits, FitsWanted}
+use Rattle.lego_laws.specs.Fitting.{Fits, FitsWanted, top}
 use Rattle.lego_laws.specs.Ranges.{levels_bound, pairs_bound, Context, FitsBetween, FitsWantedBetween}
 
 -- the types of the constants
@@ -47,3 +48,11 @@ PrincipalChecks =
     (es : List Entry) (n n₁ : ℕ) → AlwaysValid es → entries_bound es ≤ n → (g : List Core) (m a : Core) (k : List LevelPair)
     → Context n (core_types es) (core_bodies es) (kept es) g → levels_bound m ≤ n → levels_bound a ≤ n
     → FitsWantedBetween n n₁ (core_types es) (core_bodies es) (kept es) g m a k → FitsWanted es g m a k
+
+-- a typing whose universes are at most a limit, at values that are, has fitting values that are too
+abbrev pub SmallTypingsHaveSmallSolutions : Type 0
+SmallTypingsHaveSmallSolutions =
+    (es : List Entry) (g : List Core) (m a : Core) (k : List LevelPair) → Fits es g m a k
+    → (limit : ℕ) (v : Assignment) → SatisfiesAll v (kept es) → ((u : ℕ) → get_or v u 0 ≤ limit)
+    → (q : Term) (d : Has (entries_at v es) (map (at v) g) (at v m) q) → top d ≤ limit
+    → (w : Assignment) × SatisfiesAll w (kept es) × SatisfiesAll w k × ((u : ℕ) → get_or w u 0 ≤ limit)

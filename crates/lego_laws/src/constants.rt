@@ -1,6 +1,8 @@
 //! Laws of lists of constants: expansion, dropping, replacement.
 
 ghost use Rattle.lego_laws.specs.Expansion.{Expansion, JudgementsExpand};
+ghost use Rattle.lego_laws.specs.Orders.{Reordering, ReorderedJudgements, FilledListsAreValid, JudgementsFill};
+ghost use Rattle.lego_laws.specs.Reduced.{ReducedListsAreValid, JudgementsOverReducedLists};
 ghost use Rattle.lego_laws.specs.Replacement.{Replacement, ClosingIsReplacement};
 ghost use Rattle.lego_laws.specs.Strengthening.{DroppedListsAreValid, Strengthening};
 ghost use Rattle.lego_laws.specs.Translation.{Translation};
@@ -39,4 +41,35 @@ pub fn replacement()
 /// In a closed term, turning listed constants into variables is such a replacement.
 pub fn closing_is_replacement()
     ensures { ClosingIsReplacement }
+{}
+
+/// Constants of a valid list are valid in each order in which each mentions only earlier ones;
+/// so entries that don't reach one another may be exchanged.
+pub fn reordering()
+    ensures { Reordering }
+{}
+
+/// A judgement that mentions reordered constants alone stands over them.
+pub fn reordered_judgements()
+    ensures { ReorderedJudgements }
+{}
+
+/// A valid list stays valid where constants with bodies are put in and dropped.
+pub fn filled_lists_are_valid()
+    ensures { FilledListsAreValid }
+{}
+
+/// A judgement stands where constants with bodies are put in and dropped.
+pub fn judgements_fill()
+    ensures { JudgementsFill }
+{}
+
+/// A valid list stays valid where steps are made in its types and bodies.
+pub fn reduced_lists_are_valid()
+    ensures { ReducedListsAreValid }
+{}
+
+/// A judgement stands over the list with the steps made.
+pub fn judgements_over_reduced_lists()
+    ensures { JudgementsOverReducedLists }
 {}

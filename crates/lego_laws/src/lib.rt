@@ -18,8 +18,9 @@ pub use comparison::{
     long_walks_are_costly, parts_steps_are_counted, walked_steps_are_counted,
 };
 pub use constants::{
-    closing_is_replacement, dropped_lists_are_valid, expansion, judgements_expand, replacement,
-    strengthening, translation,
+    closing_is_replacement, dropped_lists_are_valid, expansion, filled_lists_are_valid,
+    judgements_expand, judgements_fill, judgements_over_reduced_lists, reduced_lists_are_valid,
+    reordered_judgements, reordering, replacement, strengthening, translation,
 };
 pub use inference::{
     contexts_grow, contexts_widen, fits_against, fits_application, fits_by_others, fits_constant,
@@ -28,8 +29,9 @@ pub use inference::{
 };
 pub use principal::{
     argument_excludes, bodies_exclude, entries_are_a_context, entries_at_values, head_excludes,
-    mismatch_excludes, no_solution_excludes, no_type_excludes, parts_exclude, principal_checks,
-    principal_types,
+    head_forms_are_unique, mismatch_excludes, no_solution_excludes, no_type_excludes,
+    parts_exclude, principal_checks, principal_types, rule_types_are_unique, rule_types_rename,
+    small_typings_have_small_solutions,
 };
 pub use reduction::{
     below_inverts, confluence, head_forms_compare, parallel_steps_meet, pi_inverts, sigma_inverts,

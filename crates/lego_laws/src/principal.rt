@@ -1,7 +1,8 @@
 //! Laws of principal types and of what excludes every typing.
 
 ghost use Rattle.lego_laws.specs.Exclusion.{HeadExcludes, MismatchExcludes, ArgumentExcludes, NoSolutionExcludes, PartsExclude, BodiesExclude, NoTypeExcludes};
-ghost use Rattle.lego_laws.specs.Principal.{EntriesAtValues, EntriesAreAContext, PrincipalTypes, PrincipalChecks};
+ghost use Rattle.lego_laws.specs.Principal.{EntriesAtValues, EntriesAreAContext, PrincipalTypes, PrincipalChecks, SmallTypingsHaveSmallSolutions};
+ghost use Rattle.lego_laws.specs.RuleTypeLaws.{HeadFormsAreUnique, RuleTypesAreUnique, RuleTypesRename};
 
 /// The types and bodies of valid entries at an assignment are those of the entries, at the
 /// assignment.
@@ -59,4 +60,24 @@ pub fn bodies_exclude()
 /// What has no type at all has none that is wanted.
 pub fn no_type_excludes()
     ensures { NoTypeExcludes }
+{}
+
+/// A typing with small universes at small values has small fitting values.
+pub fn small_typings_have_small_solutions()
+    ensures { SmallTypingsHaveSmallSolutions }
+{}
+
+/// A term has at most one head form.
+pub fn head_forms_are_unique()
+    ensures { HeadFormsAreUnique }
+{}
+
+/// With the same fresh level variables a term has at most one rule type.
+pub fn rule_types_are_unique()
+    ensures { RuleTypesAreUnique }
+{}
+
+/// The fresh level variables of a rule type may be renamed.
+pub fn rule_types_rename()
+    ensures { RuleTypesRename }
 {}
