@@ -1,5 +1,5 @@
 -- Cumulativity keeps where every level is put to 0.
-use Rattle.std.proofs.Common.{◌≡◌, ℕ, Option, Some, None, option_map, refl, ap, subst}
+use Rattle.std.proofs.Common.{◌≡◌, Option, Some, None, option_map, refl, ap, subst}
 use mathlib.Core.Path.{fun_ext}
 use Rattle.lego_term.specs.Levels.{Assignment, level_value}
 use Rattle.lego_term.specs.Trees.{Core, Term, map_tree, at, at_zero}

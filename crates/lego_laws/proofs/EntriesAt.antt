@@ -1,15 +1,15 @@
 -- Entries at an assignment.
-use Rattle.std.proofs.Common.{◌≡◌, ℕ, zero, suc, ◌≤◌, max, nat_eq, Bool, true, false, cond, if◌then◌else◌, Option, Some, None, option_map, option_and_then, List, [], ◌∷◌, ◌++◌, map, reverse, refl, sym, ap, ap₂, ◌∙◌, arith, subst, ◌⊎◌, inl, inr, ⊎_elim}
+use Rattle.std.proofs.Common.{◌≡◌, ℕ, ◌≤◌, nat_eq, Bool, true, false, cond, Option, Some, None, option_map, option_and_then, List, [], ◌∷◌, ◌++◌, map, reverse, refl, sym, ap, ◌∙◌, arith, subst, ◌⊎◌, inl, inr, ⊎_elim}
 use Rattle.std.proofs.lemmas.Bool.Decides.{nat_tests}
 use Rattle.std.proofs.lemmas.List.{reverse-append}
 use mathlib.Core.Path.{fun_ext}
-use Rattle.lego_term.specs.Levels.{Assignment, LevelPair, SatisfiesAll}
-use Rattle.lego_term.specs.Trees.{Core, Term, at}
-use Rattle.lego_laws.specs.Parallel.{TermBodies, CoreBodies, AreClosed, bodies_at}
+use Rattle.lego_term.specs.Levels.{Assignment}
+use Rattle.lego_term.specs.Trees.{Core, at}
+use Rattle.lego_laws.specs.Parallel.{bodies_at}
 use Rattle.lego_laws.specs.Entries.{Entry, Constant, entry_of, core_bodies, entry_at, entries_at, constant_of, bodies_of, kept}
-use Rattle.lego_laws.specs.Valid.{AreValid, AlwaysValid}
-use Rattle.lego_laws.specs.Derivations.{types_of, ValidLocals, v_none, ValidConstants}
-use Rattle.lego_laws.specs.Ranges.{levels_bound, pairs_bound, Context}
+use Rattle.lego_laws.specs.Valid.{AreValid}
+use Rattle.lego_laws.specs.Derivations.{types_of, v_none, ValidConstants}
+use Rattle.lego_laws.specs.Ranges.{levels_bound, pairs_bound}
 use Rattle.lego_laws.specs.Principal.{core_types, body_bound, entries_bound, EntriesAtValues, EntriesAreAContext}
 use Rattle.lego_laws.proofs.Rules.{ValidTypes, known}
 use Rattle.lego_laws.proofs.TypingLaws.{constants_valid}

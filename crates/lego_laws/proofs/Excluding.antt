@@ -1,5 +1,5 @@
 -- What excludes every typing.
-use Rattle.std.proofs.Common.{◌≡◌, ℕ, suc, ◌≤◌, max, List, [], ◌∷◌, ◌++◌, map, ◌⊎◌, inl, inr, refl, sym, ap, ◌∙◌, arith, subst}
+use Rattle.std.proofs.Common.{◌≡◌, ℕ, ◌≤◌, List, ◌∷◌, ◌++◌, map, ◌⊎◌, inl, inr, refl, sym, ◌∙◌, arith, subst}
 use Rattle.lego_term.specs.declared.binder.Binder.{Binder}
 use Rattle.lego_term.specs.declared.binder.Mark.{Mark}
 use Rattle.lego_term.specs.Levels.{Assignment, level_value, LevelPair, SatisfiesAll}
@@ -7,12 +7,12 @@ use Rattle.lego_term.specs.Trees.{Core, Term, Prop, Univ, Pi, Lam, App, Sigma, P
 use Rattle.lego_term.specs.Steps.{Converts}
 use Rattle.lego_term.specs.Below.{Below}
 use Rattle.lego_term.specs.Sequences.{HeadForm}
-use Rattle.lego_laws.specs.Parallel.{TermBodies, CoreBodies, AreClosed, bodies_at}
+use Rattle.lego_laws.specs.Parallel.{TermBodies, CoreBodies, bodies_at}
 use Rattle.lego_laws.specs.HeadForms.{IsHeadForm, PartsBelow}
 use Rattle.lego_laws.specs.Comparison.{bodies_valued}
-use Rattle.lego_laws.specs.Derivations.{Derives, d_univ, d_cum, Generated}
+use Rattle.lego_laws.specs.Derivations.{Derives, d_univ, d_cum}
 use Rattle.lego_laws.specs.Places.{Want, Nothing, AType, AFunction, APair, Stated, Fulfils, WantsHead}
-use Rattle.lego_laws.specs.Ranges.{levels_bound, locals_bound, Agree, Context, Solution, FitsBetween}
+use Rattle.lego_laws.specs.Ranges.{levels_bound, Agree, Context, Solution, FitsBetween}
 use Rattle.lego_laws.specs.Exclusion.{Meets, Excluded, HeadExcludes, MismatchExcludes, ArgumentExcludes, NoSolutionExcludes, PartsExclude, BodiesExclude, NoTypeExcludes}
 use Rattle.lego_laws.proofs.Below.{pi_inverts}
 use Rattle.lego_laws.proofs.Head.{head_forms_compare}

@@ -10,12 +10,12 @@ use Rattle.lego_laws.specs.Valid.{AreValid, BodiesFit}
 use Rattle.lego_laws.specs.Derivations.{types_of, Derives}
 use Rattle.lego_laws.specs.Translation.{standing, StandsFor, Translation}
 use Rattle.lego_laws.specs.Expansion.{expansions, expand, expand_all, HasPurely, IsPureType, Expansion, JudgementsExpand}
-use Rattle.lego_laws.specs.Orders.{fillings, fill, fill_all, FilledListsAreValid, JudgementsFill}
+use Rattle.lego_laws.specs.Orders.{fillings, fill_all, FilledListsAreValid, JudgementsFill}
 use Rattle.lego_laws.proofs.Rules.{ValidTypes, known, derived, judged, valid_types, valid_locals, type_from}
 use Rattle.lego_laws.proofs.Entries.{HasItsType, ValidBodies, valid_constants, types_closed, bodies_closed, body_from}
 use Rattle.lego_laws.proofs.TypingLaws.{bodies_typed, constants_valid}
 use Rattle.lego_laws.proofs.Translated.{Translates, t-derives, t-locals}
-use Rattle.lego_laws.proofs.Expanded.{FillsTo, expands, fills}
+use Rattle.lego_laws.proofs.Expanded.{expands, fills}
 
 body_converts : (es : List Constant) (s : TermBodies) (k : ℕ) (o : Option Term) (t : Term) → o ≡ Some t → IfSome o (λ m. Converts (bodies_of es) (standing s k) (replace_constants s m)) → Converts (bodies_of es) (standing s k) (replace_constants s t)
 body_converts es s k None t e h = cc

@@ -1,12 +1,12 @@
 -- Which level variables count for a term, for entries and for constraints.
-use Rattle.std.proofs.Common.{◌≡◌, ℕ, zero, suc, ◌+◌, ◌≤◌, max, nat_eq, Bool, true, false, ◌||◌, IsTrue, Option, Some, None, option_map, unwrap_or, List, [], ◌∷◌, ◌++◌, map, get_or, ◌⊎◌, inl, inr, ⊎_elim, refl, ap, ap₂, arith}
+use Rattle.std.proofs.Common.{◌≡◌, ℕ, suc, ◌+◌, ◌≤◌, max, nat_eq, Bool, true, false, ◌||◌, IsTrue, Option, Some, None, option_map, unwrap_or, List, [], ◌∷◌, ◌++◌, map, get_or, ◌⊎◌, inl, inr, ⊎_elim, refl, ap, ap₂, arith}
 use Rattle.std.proofs.lemmas.Bool.Decides.{nat_tests}
 use Rattle.std.specs.List.{list_any}
 use Rattle.lego_term.specs.declared.level.Level.{Level}
 use Rattle.lego_term.specs.Levels.{Assignment, node_value, level_value, LevelPair, SatisfiesAll}
-use Rattle.lego_term.specs.Trees.{Core, Term, Var, Const, Prop, Univ, Pi, Lam, App, Sigma, Pair, Fst, Snd, at, levels_of, is_over, uses_level}
-use Rattle.lego_laws.specs.Entries.{Entry, Constant, entry_at, entry_uses, kept}
-use Rattle.lego_laws.specs.Ranges.{node_bound, level_bound, levels_bound, pairs_bound, locals_bound}
+use Rattle.lego_term.specs.Trees.{Core, Var, Const, Prop, Univ, Pi, Lam, App, Sigma, Pair, Fst, Snd, at, levels_of, is_over, uses_level}
+use Rattle.lego_laws.specs.Entries.{Entry, entry_at, entry_uses}
+use Rattle.lego_laws.specs.Ranges.{node_bound, level_bound, levels_bound}
 
 pub or_left : (a b : Bool) → IsTrue a → IsTrue (a || b)
 or_left true b h = h

@@ -1,24 +1,12 @@
 -- The variables that are held are within their bounds, and their values alone count.
-use Rattle.std.proofs.Common.{◌≡◌, ℕ, zero, suc, ◌≤◌, ◌<◌, max, Bool, true, false, cond, ◌||◌, IsTrue, Option, Some, None, option_map, unwrap_or, List, [], ◌∷◌, ◌++◌, map, get_or, ⊎_elim, refl, sym, ap, ◌∙◌, arith, subst}
-use Rattle.std.proofs.lemmas.Bool.{cases_lt}
+use Rattle.std.proofs.Common.{◌≡◌, ℕ, zero, suc, ◌≤◌, max, Bool, true, false, cond, ◌||◌, IsTrue, Option, Some, None, option_map, unwrap_or, List, [], ◌∷◌, get_or, ⊎_elim, refl, sym, ap, arith}
 use Rattle.std.specs.List.{list_any}
-use Rattle.lego_term.specs.Levels.{Assignment, LevelPair, SatisfiesAll}
-use Rattle.lego_term.specs.Trees.{Core, Term, at, uses_level, is_over}
-use Rattle.lego_term.specs.Below.{Below}
-use Rattle.lego_laws.specs.Parallel.{TermBodies, bodies_at}
-use Rattle.lego_laws.specs.Entries.{Entry, Constant, core_bodies, entry_at, entries_at, bodies_of, kept, entry_uses, IsHeld}
-use Rattle.lego_laws.specs.Judgement.{Valid, Has}
-use Rattle.lego_laws.specs.Valid.{AreValid, AlwaysValid}
-use Rattle.lego_laws.specs.Derivations.{types_of, Derives, ValidLocals}
-use Rattle.lego_laws.specs.Fitting.{top, Extends, IsSound, Fits, FitsWanted}
-use Rattle.lego_laws.specs.Ranges.{levels_bound, pairs_bound, locals_bound, Agree, Bounded, Context, Solution, FitsBetween, FitsWantedBetween}
-use Rattle.lego_laws.specs.Principal.{core_types, body_bound, entries_bound, PrincipalTypes, PrincipalChecks}
-use Rattle.lego_laws.proofs.Rules.{judged, valid_locals}
-use Rattle.lego_laws.proofs.Greatest.{bounded}
-use Rattle.lego_laws.proofs.Agreeing.{moved}
-use Rattle.lego_laws.proofs.Solving.{below_with}
-use Rattle.lego_laws.proofs.EntriesAt.{types_at, bodies_at_values}
-use Rattle.lego_laws.proofs.HeldVariables.{or_left, or_right, or_cases, uses_within, over_within, at_same, locals_same, satisfies_same, entry_same}
+use Rattle.lego_term.specs.Levels.{Assignment, LevelPair}
+use Rattle.lego_term.specs.Trees.{Core, uses_level, is_over}
+use Rattle.lego_laws.specs.Entries.{Entry, entry_uses, IsHeld}
+use Rattle.lego_laws.specs.Ranges.{levels_bound, pairs_bound, locals_bound}
+use Rattle.lego_laws.specs.Principal.{body_bound, entries_bound}
+use Rattle.lego_laws.proofs.HeldVariables.{or_cases, uses_within, over_within}
 
 -- the values of the variables that a test finds, and 0 for all others
 abbrev pub only : (ℕ → Bool) → Assignment → Assignment

@@ -1,15 +1,14 @@
 -- The laws of inference, as contracts state them.
-use Rattle.std.proofs.Common.{◌≡◌, ℕ, zero, suc, ◌≤◌, max, Some, List, [], ◌∷◌, ◌++◌, map, slice_get, get_or, ⊎_elim, refl, sym, ap, ◌∙◌, arith, subst}
+use Rattle.std.proofs.Common.{◌≡◌, ℕ, zero, suc, ◌≤◌, Some, List, [], ◌∷◌, map, slice_get, get_or, ⊎_elim, refl, sym, arith, subst}
 use Rattle.std.proofs.lemmas.Bool.{cases_lt}
-use Rattle.lego_term.specs.Levels.{Assignment, level_value, LevelPair, SatisfiesAll}
+use Rattle.lego_term.specs.Levels.{Assignment}
 use Rattle.lego_term.specs.Trees.{Core, Term, lift, at}
-use Rattle.lego_term.specs.Below.{Below}
-use Rattle.lego_laws.specs.Parallel.{CoreBodies, bodies_at}
+use Rattle.lego_laws.specs.Parallel.{bodies_at}
 use Rattle.lego_laws.specs.Derivations.{v_local}
-use Rattle.lego_laws.specs.Ranges.{levels_bound, pairs_bound, Agree, Bounded, Context, Solution, FitsBetween}
+use Rattle.lego_laws.specs.Ranges.{Agree, Solution}
 use Rattle.lego_laws.specs.Inference.{FitsProp, FitsVariable, FitsConstant, FitsUniverse, FitsLambda, FitsProposition, FitsProduct, FitsSigma, FitsApplication, FitsPair, FitsFirst, FitsSecond, FitsAgainst, FitsByOthers, FitsInWiderRange, ContextsWiden, ContextsGrow}
 use Rattle.lego_laws.proofs.Subst.{lift_more}
-use Rattle.lego_laws.proofs.Agreeing.{narrower, at_agree, satisfies_agree, bodies_agree, bounded_agree, pairs_bound-append, agree_both, cut, cut_agree, cut_small}
+use Rattle.lego_laws.proofs.Agreeing.{narrower, satisfies_agree, bodies_agree, bounded_agree, pairs_bound-append, agree_both, cut, cut_agree, cut_small}
 use Rattle.lego_laws.proofs.Satisfying.{satisfies_front, satisfies_back}
 use Rattle.lego_laws.proofs.Solving.{below_with, sort_sound}
 use Rattle.lego_laws.proofs.FitsLeaf.{HasCoreLocal, first, later, prop_fits, var_fits, const_fits, univ_fits}

@@ -50,3 +50,4 @@ pub mod Reordered
 pub mod ReducedLists
 pub mod RuleTypesUnique
 pub mod RuleTypesRenamed
+pub mod ExampleProofs

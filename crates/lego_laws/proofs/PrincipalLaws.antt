@@ -1,17 +1,17 @@
 -- Constraints that fit in a range are sound and principal over the entries.
-use Rattle.std.proofs.Common.{◌≡◌, ℕ, suc, ◌≤◌, ◌<◌, max, ◌||◌, IsTrue, List, [], ◌∷◌, ◌++◌, map, reverse, get_or, Bool, true, false, ◌⊎◌, inl, inr, ⊎_elim, refl, sym, ap, ap₂, ◌∙◌, arith, subst}
+use Rattle.std.proofs.Common.{◌≡◌, ℕ, ◌≤◌, ◌<◌, ◌||◌, IsTrue, List, [], ◌∷◌, map, reverse, get_or, Bool, true, false, ◌⊎◌, inl, inr, ⊎_elim, refl, sym, ap, ap₂, ◌∙◌, arith, subst}
 use Rattle.std.proofs.lemmas.Bool.{cases_lt}
 use Rattle.std.specs.List.{list_any}
 use Rattle.lego_term.specs.Levels.{Assignment, LevelPair, SatisfiesAll}
-use Rattle.lego_term.specs.Trees.{Core, Term, at, uses_level, is_over}
+use Rattle.lego_term.specs.Trees.{Core, Term, at, uses_level}
 use Rattle.lego_term.specs.Below.{Below}
 use Rattle.lego_laws.specs.Parallel.{TermBodies, bodies_at}
-use Rattle.lego_laws.specs.Entries.{Entry, Constant, core_bodies, entry_at, entries_at, bodies_of, kept, entry_uses, IsHeld}
-use Rattle.lego_laws.specs.Judgement.{Valid, Has}
-use Rattle.lego_laws.specs.Valid.{AreValid, AlwaysValid}
+use Rattle.lego_laws.specs.Entries.{Entry, core_bodies, entry_at, entries_at, bodies_of, kept, entry_uses, IsHeld}
+use Rattle.lego_laws.specs.Judgement.{Has}
+use Rattle.lego_laws.specs.Valid.{AlwaysValid}
 use Rattle.lego_laws.specs.Derivations.{types_of, Derives, ValidLocals}
-use Rattle.lego_laws.specs.Fitting.{top, Extends, IsSound, Fits, FitsWanted}
-use Rattle.lego_laws.specs.Ranges.{levels_bound, pairs_bound, locals_bound, Agree, Bounded, Context, Solution, FitsBetween, FitsWantedBetween}
+use Rattle.lego_laws.specs.Fitting.{top, Extends, IsSound}
+use Rattle.lego_laws.specs.Ranges.{locals_bound, Agree, Bounded, Context}
 use Rattle.lego_laws.specs.Principal.{core_types, entries_bound, PrincipalTypes, PrincipalChecks, SmallTypingsHaveSmallSolutions}
 use Rattle.lego_laws.proofs.Rules.{judged, valid_locals}
 use Rattle.lego_laws.proofs.Greatest.{bounded}

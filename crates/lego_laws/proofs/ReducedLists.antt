@@ -1,19 +1,17 @@
 -- Lists of constants whose types and bodies are reduced.
-use Rattle.std.proofs.Common.{◌≡◌, ℕ, Bool, true, false, cond, nat_eq, Option, Some, None, option_map, option_and_then, unwrap_or, IfSome, List, [], ◌∷◌, map, refl, sym, ap, ap₂, ◌∙◌, arith, subst}
+use Rattle.std.proofs.Common.{◌≡◌, ℕ, Bool, true, false, cond, nat_eq, Option, Some, None, option_map, option_and_then, List, [], ◌∷◌, map, refl, sym, ap, ap₂, ◌∙◌, subst}
 use Rattle.lego_term.specs.Trees.{Term, Var, Const, Prop, Univ, Pi, Lam, App, Sigma, Pair, Fst, Snd, replace_constants}
 use Rattle.lego_term.specs.Steps.{Contracts, Step, Converts}
 use Rattle.lego_term.specs.Below.{Below}
-use Rattle.lego_laws.specs.Parallel.{TermBodies, AreClosed, Star}
+use Rattle.lego_laws.specs.Parallel.{Star}
 use Rattle.lego_laws.specs.Entries.{Constant, constant_of, bodies_of}
-use Rattle.lego_laws.specs.Judgement.{Has}
-use Rattle.lego_laws.specs.Valid.{AreValid}
 use Rattle.lego_laws.specs.Derivations.{types_of, Derives, d_const, d_cum, ValidLocals, v_none, ValidConstants}
 use Rattle.lego_laws.specs.Reduced.{BodyReduces, Reduces, nothing, reduced, ReducedListsAreValid, JudgementsOverReducedLists}
 use Rattle.lego_laws.proofs.CommonReducts.{convert_run}
 use Rattle.lego_laws.proofs.Rules.{ValidTypes, known, derived, judged, valid_types, valid_locals}
 use Rattle.lego_laws.proofs.Entries.{Extends, more_derives, more_convert, HasItsType, ValidBodies, types_kept, bodies_kept, valid_constants, types_closed, bodies_closed}
-use Rattle.lego_laws.proofs.TypingLaws.{bodies_typed, constants_valid}
-use Rattle.lego_laws.proofs.Translated.{Translates, t-derives, t-locals}
+use Rattle.lego_laws.proofs.TypingLaws.{bodies_typed}
+use Rattle.lego_laws.proofs.Translated.{t-derives, t-locals}
 use Rattle.lego_laws.proofs.Expanded.{FillsTo, nothing_yet, fresh_if}
 use Rattle.lego_laws.proofs.ExpansionLaws.{bodies_judged}
 use Rattle.lego_laws.proofs.Solving.{runs_keep}

@@ -1,13 +1,12 @@
 -- Typing under renamings and substitutions.
-use Rattle.std.proofs.Common.{◌≡◌, ℕ, zero, suc, List, ◌∷◌, sym, ap, ◌∙◌, arith}
+use Rattle.std.proofs.Common.{◌≡◌, ℕ, zero, suc, List, ◌∷◌, sym, ap, ◌∙◌}
 use Rattle.lego_term.specs.Trees.{Term, Var, Univ, instantiate, lift}
 use Rattle.lego_laws.specs.Parallel.{TermBodies, AreClosed}
 use Rattle.lego_term.specs.Below.{Below}
 use Rattle.lego_laws.specs.Derivations.{HasLocal, Derives, d_prop, d_univ, d_var, d_const, d_pi_prop, d_pi, d_lam, d_app, d_sigma, d_pair, d_fst, d_snd, d_cum}
-use Rattle.lego_laws.proofs.Subst.{lift_one, rename, up_ren, substitute, up, one, rename_is, rename-rename, substitute_var, substitute-rename, rename-substitute, substitute-instantiate, instantiate_is, lift_is, raise}
+use Rattle.lego_laws.proofs.Subst.{lift_one, rename, up_ren, substitute, up, one, rename_is, rename-rename, substitute_var, substitute-rename, rename-substitute, substitute-instantiate, instantiate_is}
 use Rattle.lego_laws.proofs.Substituted.{convert-substitute}
 use Rattle.lego_laws.proofs.Parallel.{closed_rename, closed_substitute, rename-instantiate}
-use mathlib.Core.Path.{fun_ext}
 
 module _ (b : TermBodies) (closed : AreClosed b) where
   pub below-substitute : (s : ℕ → Term) {t u : Term} → Below b t u → Below b (substitute s t) (substitute s u)

@@ -1,17 +1,16 @@
 -- Constants in another order.
-use Rattle.std.proofs.Common.{◌≡◌, ℕ, Bool, true, false, nat_eq, IsTrue, Option, Some, None, option_map, option_and_then, IfSome, List, [], ◌∷◌, ◌⊎◌, inl, inr, ⊎_elim, refl, sym, ap, ◌∙◌, arith, subst}
+use Rattle.std.proofs.Common.{◌≡◌, ℕ, Bool, nat_eq, IsTrue, Option, Some, None, option_map, option_and_then, IfSome, List, [], ◌∷◌, inl, inr, refl, sym, ap, ◌∙◌, arith, subst}
 use Rattle.std.proofs.lemmas.Bool.Decides.{nat_tests}
 use Rattle.std.specs.List.{AllByRecursion}
 use Rattle.lego_term.specs.Trees.{Term, Var, Const, Prop, Univ, Pi, Lam, App, Sigma, Pair, Fst, Snd}
-use Rattle.lego_laws.specs.Parallel.{TermBodies, AreClosed}
 use Rattle.lego_laws.specs.Entries.{Constant, constant_of, bodies_of}
 use Rattle.lego_laws.specs.Judgement.{Valid, Has}
 use Rattle.lego_laws.specs.Valid.{AreValid}
-use Rattle.lego_laws.specs.Derivations.{types_of, Derives, ValidLocals, v_none, v_local, ValidConstants}
+use Rattle.lego_laws.specs.Derivations.{types_of, Derives, ValidLocals, v_none, v_local}
 use Rattle.lego_laws.specs.Strengthening.{Mentions, EntryMentions}
 use Rattle.lego_laws.specs.Orders.{found_in, has_constant, MentionEarlier, AreAmong, Reordering, ReorderedJudgements}
 use Rattle.lego_laws.proofs.Rules.{known, derived, judged, valid_locals, type_from}
-use Rattle.lego_laws.proofs.Entries.{HasItsType, types_closed, bodies_closed, body_from, found, entry_kept, Stands, stands}
+use Rattle.lego_laws.proofs.Entries.{HasItsType, types_closed, bodies_closed, body_from, found, entry_kept, stands}
 use Rattle.lego_laws.proofs.TypingLaws.{bodies_typed, constants_valid}
 use Rattle.lego_laws.proofs.Strengthened.{Restricts, strengthened}
 

@@ -1,12 +1,12 @@
 -- The fresh variables of a rule type may be renamed.
-use Rattle.std.proofs.Common.{◌≡◌, ℕ, zero, suc, Option, Some, None, option_map, option_and_then, nat_eq, Bool, true, false, cond, ◌||◌, IsTrue, unwrap_or, List, [], ◌∷◌, ◌++◌, slice_get, ◌⊎◌, inl, inr, ⊎_elim, refl, sym, ap, ap₂, ◌∙◌, subst}
+use Rattle.std.proofs.Common.{◌≡◌, ℕ, zero, suc, Option, Some, None, option_map, option_and_then, nat_eq, Bool, true, false, cond, ◌||◌, IsTrue, unwrap_or, List, [], ◌∷◌, ◌++◌, slice_get, refl, sym, ap, ap₂, ◌∙◌, subst}
 use Rattle.std.specs.List.{list_any}
 use mathlib.Core.Path.{fun_ext}
 use Rattle.lego_term.specs.declared.level.Level.{Level}
 use Rattle.lego_term.specs.Trees.{Core, Var, Const, Prop, Univ, Pi, Lam, App, Sigma, Pair, Fst, Snd, lift, instantiate, levels_of, is_over, uses_level}
-use Rattle.lego_term.specs.Sequences.{head_step, after, Ends, HeadForm}
+use Rattle.lego_term.specs.Sequences.{head_step, after, HeadForm}
 use Rattle.lego_laws.specs.Parallel.{CoreBodies}
-use Rattle.lego_laws.specs.Entries.{Entry, entry_of, core_bodies, entry_uses, IsHeld}
+use Rattle.lego_laws.specs.Entries.{Entry, entry_of, core_bodies, entry_uses}
 use Rattle.lego_laws.specs.RuleTypes.{RuleType}
 use Rattle.lego_laws.specs.RuleTypeLaws.{renamed_level, renamed, RuleTypesRename}
 use Rattle.lego_laws.proofs.Mapping.{map-lift, map-instantiate, mapped_bodies, head_step-map}

@@ -1,19 +1,13 @@
 -- A rule type is unique, and its fresh variables may be renamed.
-use Rattle.std.proofs.Common.{◌≡◌, ℕ, zero, suc, ◌+◌, ◌≤◌, Option, Some, None, option_map, option_and_then, nat_eq, Bool, false, cond, ◌||◌, IsTrue, unwrap_or, List, [], ◌∷◌, ◌++◌, map, slice_get, ◌⊎◌, inl, inr, ⊎_elim, refl, sym, ap, ap₂, ◌∙◌, arith, subst}
-use Rattle.std.specs.List.{list_any}
-use mathlib.Core.Path.{fun_ext}
+use Rattle.std.proofs.Common.{◌≡◌, ℕ, suc, Option, Some, List, refl, sym, ap, ◌∙◌, arith, subst}
 use Rattle.lego_term.specs.declared.binder.Binder.{Binder}
-use Rattle.lego_term.specs.declared.binder.Mark.{Mark}
-use Rattle.lego_term.specs.declared.level.Level.{Level}
-use Rattle.lego_term.specs.Levels.{LevelPair}
-use Rattle.lego_term.specs.Trees.{Core, Var, Const, Prop, Univ, Pi, Lam, App, Sigma, Pair, Fst, Snd, map_tree, lift, instantiate, levels_of, is_over, uses_level}
+use Rattle.lego_term.specs.Trees.{Core, Pi, Sigma, Fst, lift, instantiate}
 use Rattle.lego_term.specs.Sequences.{head_step, after, Ends, HeadForm}
 use Rattle.lego_laws.specs.Parallel.{CoreBodies}
-use Rattle.lego_laws.specs.Entries.{Entry, entry_of, core_bodies, entry_uses, IsHeld}
+use Rattle.lego_laws.specs.Entries.{Entry}
 use Rattle.lego_laws.specs.RuleTypes.{RuleType}
-use Rattle.lego_laws.specs.RuleTypeLaws.{HeadFormsAreUnique, RuleTypesAreUnique, renamed_level, renamed, RuleTypesRename}
-use Rattle.lego_laws.proofs.Mapping.{map-lift, map-instantiate, mapped_bodies, head_step-map}
-use Rattle.lego_laws.proofs.After.{at_most, next, after_one}
+use Rattle.lego_laws.specs.RuleTypeLaws.{HeadFormsAreUnique, RuleTypesAreUnique}
+use Rattle.lego_laws.proofs.After.{at_most}
 
 some_is : {X : Type 0} {t u : X} → Some t ≡ Some u → t ≡ u
 some_is e = cc

@@ -1,6 +1,5 @@
 -- On valid lists the thirteen rules and the derivations over fixed constants give the same.
-use Rattle.std.proofs.Common.{◌≡◌, ℕ, zero, suc, Option, None, Some, List, [], ◌∷◌, slice_get, option_map, refl, sym, ap, ◌∙◌, arith, subst}
-use mathlib.Core.Path.{fun_ext}
+use Rattle.std.proofs.Common.{◌≡◌, ℕ, zero, suc, Option, None, Some, List, [], ◌∷◌, slice_get, option_map, refl, sym, ap, ◌∙◌, subst}
 use Rattle.lego_term.specs.Trees.{Term, Var, Const, Univ, lift}
 use Rattle.lego_laws.specs.Derivations.{types_of, HasLocal, Derives, d_prop, d_univ, d_var, d_const, d_pi_prop, d_pi, d_lam, d_app, d_sigma, d_pair, d_fst, d_snd, d_cum, ValidLocals, v_none, v_local}
 use Rattle.lego_laws.specs.Entries.{Constant, constant_of, bodies_of}

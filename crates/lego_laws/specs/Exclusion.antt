@@ -1,8 +1,7 @@
 -- What excludes every typing.
-use Rattle.std.specs.Prelude.{◌≡◌, ℕ, ◌≤◌, List, [], ◌∷◌, ◌++◌, map, Option}
+use Rattle.std.specs.Prelude.{◌≡◌, ℕ, ◌≤◌, List, ◌∷◌, ◌++◌, map}
 use Rattle.lego_term.specs.declared.binder.Binder.{Binder}
 use Rattle.lego_term.specs.declared.binder.Mark.{Mark}
-use Rattle.lego_term.specs.declared.level.Level.{Level}
 use Rattle.lego_term.specs.Levels.{Assignment, LevelPair, SatisfiesAll}
 use Rattle.lego_term.specs.Trees.{Core, Term, Univ, Pi, Lam, App, Sigma, Pair, Fst, Snd, instantiate, at, at_zero}
 use Rattle.lego_term.specs.Below.{Below}
@@ -11,7 +10,7 @@ use Rattle.lego_laws.specs.Parallel.{CoreBodies, bodies_at}
 use Rattle.lego_laws.specs.Comparison.{bodies_valued}
 use Rattle.lego_laws.specs.Derivations.{Derives}
 use Rattle.lego_laws.specs.Places.{Want, Nothing, AType, AFunction, APair, Stated, Fulfils, WantsHead}
-use Rattle.lego_laws.specs.Ranges.{levels_bound, pairs_bound, Context, FitsBetween, sort_term}
+use Rattle.lego_laws.specs.Ranges.{levels_bound, Context, FitsBetween}
 
 -- the type is of the form that a place wants
 abbrev pub Meets : Assignment → Want → Term → Type 0

@@ -2,9 +2,8 @@
 use Rattle.std.specs.Prelude.{◌≡◌, ℕ, Bool, true, false, Option, Some, None, option_map, nat_eq, if◌then◌else◌, List, [], ◌∷◌, map}
 use Rattle.std.specs.List.{AllByRecursion}
 use Rattle.lego_term.specs.Trees.{Term, replace_constants}
-use Rattle.lego_term.specs.Steps.{Step}
-use Rattle.lego_laws.specs.Parallel.{TermBodies, Star}
-use Rattle.lego_laws.specs.Entries.{Constant, constant_of, bodies_of}
+use Rattle.lego_laws.specs.Parallel.{TermBodies}
+use Rattle.lego_laws.specs.Entries.{Constant, constant_of}
 use Rattle.lego_laws.specs.Judgement.{Has}
 use Rattle.lego_laws.specs.Valid.{AreValid}
 use Rattle.lego_laws.specs.Strengthening.{Mentions, EntryMentions}

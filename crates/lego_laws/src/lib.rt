@@ -4,6 +4,7 @@
 
 mod comparison;
 mod constants;
+mod examples;
 mod inference;
 mod principal;
 mod reduction;
@@ -21,6 +22,11 @@ pub use constants::{
     closing_is_replacement, dropped_lists_are_valid, expansion, filled_lists_are_valid,
     judgements_expand, judgements_fill, judgements_over_reduced_lists, reduced_lists_are_valid,
     reordered_judgements, reordering, replacement, strengthening, translation,
+};
+pub use examples::{
+    domains_must_convert, four_head_steps, identity_is_typed, levels_dont_count_at_zero,
+    no_sort_is_in_itself, propositions_have_products, redex_contracts, rule_type_of_identity,
+    universe_fits_exactly, universes_are_no_propositions,
 };
 pub use inference::{
     contexts_grow, contexts_widen, fits_against, fits_application, fits_by_others, fits_constant,
