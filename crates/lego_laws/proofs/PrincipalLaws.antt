@@ -12,8 +12,9 @@ use Rattle.lego_laws.specs.Valid.{AlwaysValid}
 use Rattle.lego_laws.specs.Derivations.{types_of, Derives, ValidLocals}
 use Rattle.lego_laws.specs.Fitting.{top, Extends, IsSound}
 use Rattle.lego_laws.specs.Ranges.{locals_bound, Agree, Bounded, Context}
+use Rattle.lego_laws.specs.Exclusion.{ExcludedHasNoTyping}
 use Rattle.lego_laws.specs.Principal.{core_types, entries_bound, PrincipalTypes, PrincipalChecks, SmallTypingsHaveSmallSolutions}
-use Rattle.lego_laws.proofs.Rules.{judged, valid_locals}
+use Rattle.lego_laws.proofs.Rules.{derived, judged, valid_locals}
 use Rattle.lego_laws.proofs.Greatest.{bounded}
 use Rattle.lego_laws.proofs.Agreeing.{moved}
 use Rattle.lego_laws.proofs.Satisfying.{satisfies_append, satisfies_front, satisfies_back}
@@ -136,3 +137,8 @@ small_typings_have_small_solutions es g m a k f limit v h small q d le =
     bound w e u =
         ⊎_elim (λ (i : IsHeld u es g (m ∷ [])). let s = e.same u i in let z = small u in omega arith) (λ (i : IsHeld u es g (m ∷ []) → ⊥). let z = e.bounded u i in omega arith)
         (held_or_not (list_any (entry_uses u) es || list_any (uses_level u) g || list_any (uses_level u) (m ∷ [])))
+
+pub excluded_has_no_typing : ExcludedHasNoTyping
+excluded_has_no_typing es always g m w out v h q meets d =
+    let x = always v h in
+    out v h q meets (derives_moved (types_at es v x) (bodies_at_values es v x) (derived d).0)

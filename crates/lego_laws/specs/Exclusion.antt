@@ -7,9 +7,13 @@ use Rattle.lego_term.specs.Trees.{Core, Term, Univ, Pi, Lam, App, Sigma, Pair, F
 use Rattle.lego_term.specs.Below.{Below}
 use Rattle.lego_term.specs.Sequences.{HeadForm}
 use Rattle.lego_laws.specs.Parallel.{CoreBodies, bodies_at}
+use Rattle.lego_laws.specs.Entries.{Entry, core_bodies, entries_at, kept}
+use Rattle.lego_laws.specs.Judgement.{Has}
+use Rattle.lego_laws.specs.Valid.{AlwaysValid}
 use Rattle.lego_laws.specs.Comparison.{bodies_valued}
 use Rattle.lego_laws.specs.Derivations.{Derives}
 use Rattle.lego_laws.specs.Places.{Want, Nothing, AType, AFunction, APair, Stated, Fulfils, WantsHead}
+use Rattle.lego_laws.specs.Principal.{core_types}
 use Rattle.lego_laws.specs.Ranges.{levels_bound, Context, FitsBetween}
 
 -- the type is of the form that a place wants
@@ -81,3 +85,9 @@ BodiesExclude =
 abbrev pub NoTypeExcludes : Type 0
 NoTypeExcludes =
     (c b : CoreBodies) (held : List LevelPair) (g : List Core) (m : Core) (w : Want) → Excluded c b held g m Nothing → Excluded c b held g m w
+
+-- over entries, what is excluded has no typing by the rules
+abbrev pub ExcludedHasNoTyping : Type 0
+ExcludedHasNoTyping =
+    (es : List Entry) → AlwaysValid es → (g : List Core) (m : Core) (w : Want) → Excluded (core_types es) (core_bodies es) (kept es) g m w
+    → (v : Assignment) → SatisfiesAll v (kept es) → (q : Term) → Meets v w q → Has (entries_at v es) (map (at v) g) (at v m) q → ⊥

@@ -34,7 +34,8 @@ pub use inference::{
     fits_proposition, fits_second, fits_sigma, fits_universe, fits_variable,
 };
 pub use principal::{
-    argument_excludes, bodies_exclude, entries_are_a_context, entries_at_values, head_excludes,
+    argument_excludes, bodies_exclude, entries_are_a_context, entries_at_values,
+    excluded_has_no_typing, head_excludes,
     head_forms_are_unique, mismatch_excludes, no_solution_excludes, no_type_excludes,
     parts_exclude, principal_checks, principal_types, rule_types_are_unique, rule_types_rename,
     small_typings_have_small_solutions,

@@ -1,6 +1,6 @@
 //! Laws of principal types and of what excludes every typing.
 
-ghost use Rattle.lego_laws.specs.Exclusion.{HeadExcludes, MismatchExcludes, ArgumentExcludes, NoSolutionExcludes, PartsExclude, BodiesExclude, NoTypeExcludes};
+ghost use Rattle.lego_laws.specs.Exclusion.{HeadExcludes, MismatchExcludes, ArgumentExcludes, NoSolutionExcludes, PartsExclude, BodiesExclude, NoTypeExcludes, ExcludedHasNoTyping};
 ghost use Rattle.lego_laws.specs.Principal.{EntriesAtValues, EntriesAreAContext, PrincipalTypes, PrincipalChecks, SmallTypingsHaveSmallSolutions};
 ghost use Rattle.lego_laws.specs.RuleTypeLaws.{HeadFormsAreUnique, RuleTypesAreUnique, RuleTypesRename};
 
@@ -80,4 +80,9 @@ pub fn rule_types_are_unique()
 /// The fresh level variables of a rule type may be renamed.
 pub fn rule_types_rename()
     ensures { RuleTypesRename }
+{}
+
+/// Over entries, what is excluded has no typing by the rules.
+pub fn excluded_has_no_typing()
+    ensures { ExcludedHasNoTyping }
 {}
