@@ -51,3 +51,5 @@ pub mod ReducedLists
 pub mod RuleTypesUnique
 pub mod RuleTypesRenamed
 pub mod ExampleProofs
+pub mod Reaching
+pub mod Generalised

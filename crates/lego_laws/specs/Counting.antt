@@ -1,5 +1,5 @@
 -- The steps of a walk through two terms are among those of their normalisation sequences.
-use Rattle.std.specs.Prelude.{◌≡◌, ℕ, ◌+◌, ◌≤◌, ◌<◌, Some, List, ◌∷◌}
+use Rattle.std.specs.Prelude.{◌≡◌, ℕ, ◌+◌, ◌≤◌, ◌<◌, Some, List, [], ◌∷◌}
 use Rattle.lego_term.specs.Trees.{Core}
 use Rattle.lego_term.specs.Parts.{Branch, parts_of}
 use Rattle.lego_term.specs.Sequences.{head_step, normal_step, after, Ends, CostMoreThan}
@@ -50,3 +50,29 @@ WalkedStepsAreCounted = (b : CoreBodies) (t u : Core) (i j : ℕ) → Walked b t
 -- a walk of more than n steps shows that the two sequences together have more than n
 abbrev pub LongWalksAreCostly : Type 0
 LongWalksAreCostly = (b : CoreBodies) (t u : Core) (i j n : ℕ) → Walked b t u i j → n < i + j → CostMoreThan b t u n
+
+-- what the parts' sequences reach after n steps together, where all steps of a part come before those of the next
+pub data PartsReach (b : CoreBodies) : List Branch → ℕ → List Branch → Type 0 where
+  unmoved : {ps : List Branch} → PartsReach b ps 0 ps
+  within : (i : ℕ) {p : Branch} {ps : List Branch} {u : Core}
+      → after (normal_step b) i p.term ≡ Some u → PartsReach b (p ∷ ps) i (record { under = p.under; term = u } ∷ ps)
+  behind : (i : ℕ) {n : ℕ} {p : Branch} {ps qs : List Branch} {u : Core}
+      → Ends (normal_step b) p.term i u → PartsReach b ps n qs → PartsReach b (p ∷ ps) (i + n) (record { under = p.under; term = u } ∷ qs)
+
+-- the ends of the parts' sequences, of n steps together
+pub data PartsEnd (b : CoreBodies) : List Branch → ℕ → List Branch → Type 0 where
+  no_part : PartsEnd b [] 0 []
+  one_more : (i : ℕ) {n : ℕ} {p : Branch} {ps qs : List Branch} {u : Core}
+      → Ends (normal_step b) p.term i u → PartsEnd b ps n qs → PartsEnd b (p ∷ ps) (i + n) (record { under = p.under; term = u } ∷ qs)
+
+-- what the sequences of a head form's parts reach, its own sequence reaches in its parts
+abbrev pub PartsAreReached : Type 0
+PartsAreReached =
+    (b : CoreBodies) (t : Core) (n : ℕ) (qs : List Branch) → IsHeadForm b t → PartsReach b (parts_of t) n qs
+    → (u : Core) × (after (normal_step b) n t ≡ Some u) × (parts_of u ≡ qs)
+
+-- where they end, its own sequence ends
+abbrev pub PartsEndTogether : Type 0
+PartsEndTogether =
+    (b : CoreBodies) (t : Core) (n : ℕ) (qs : List Branch) → IsHeadForm b t → PartsEnd b (parts_of t) n qs
+    → (u : Core) × Ends (normal_step b) t n u × (parts_of u ≡ qs)

@@ -1,7 +1,7 @@
 //! Laws of a comparison through head forms.
 
 ghost use Rattle.lego_laws.specs.Comparison.{ComparisonIsExact, FacingPartsAreRelated, DifferenceExcludesBelow, DifferenceExcludesConversion};
-ghost use Rattle.lego_laws.specs.Counting.{HeadStepsAreCounted, PartsStepsAreCounted, FewerStepsAreCounted, WalkedStepsAreCounted, LongWalksAreCostly};
+ghost use Rattle.lego_laws.specs.Counting.{HeadStepsAreCounted, PartsStepsAreCounted, FewerStepsAreCounted, WalkedStepsAreCounted, LongWalksAreCostly, PartsAreReached, PartsEndTogether};
 
 /// The constraints that a comparison gathers are satisfied exactly where the first term is
 /// below the second, or converts with it.
@@ -49,4 +49,15 @@ pub fn walked_steps_are_counted()
 /// A walk of more than n steps shows that the two sequences together have more than n.
 pub fn long_walks_are_costly()
     ensures { LongWalksAreCostly }
+{}
+
+/// What the sequences of a head form's parts reach, one after another, its own sequence
+/// reaches in its parts.
+pub fn parts_are_reached()
+    ensures { PartsAreReached }
+{}
+
+/// Where the sequences of a head form's parts end, its own sequence ends.
+pub fn parts_end_together()
+    ensures { PartsEndTogether }
 {}

@@ -16,7 +16,8 @@ ghost use Rattle.lego_laws.specs.Fitting.{Fits};
 pub use comparison::{
     comparison_is_exact, difference_excludes_below, difference_excludes_conversion,
     facing_parts_are_related, fewer_steps_are_counted, head_steps_are_counted,
-    long_walks_are_costly, parts_steps_are_counted, walked_steps_are_counted,
+    long_walks_are_costly, parts_are_reached, parts_end_together, parts_steps_are_counted,
+    walked_steps_are_counted,
 };
 pub use constants::{
     closing_is_replacement, dropped_lists_are_valid, expansion, filled_lists_are_valid,
@@ -35,16 +36,15 @@ pub use inference::{
 };
 pub use principal::{
     argument_excludes, bodies_exclude, entries_are_a_context, entries_at_values,
-    excluded_has_no_typing, head_excludes,
-    head_forms_are_unique, mismatch_excludes, no_solution_excludes, no_type_excludes,
-    parts_exclude, principal_checks, principal_types, rule_types_are_unique, rule_types_rename,
-    small_typings_have_small_solutions,
+    excluded_has_no_typing, head_excludes, head_forms_are_unique, mismatch_excludes,
+    no_solution_excludes, no_type_excludes, parts_exclude, principal_checks, principal_types,
+    rule_types_are_unique, rule_types_rename, small_typings_have_small_solutions,
 };
 pub use reduction::{
     below_inverts, confluence, head_forms_compare, parallel_steps_meet, pi_inverts, sigma_inverts,
     sorts_invert, steps_keep_at_values, steps_substitute,
 };
 pub use typing::{
-    generation, judgements_stand_in_valid_lists, narrowing, rules_are_derivations,
+    generalisation, generation, judgements_stand_in_valid_lists, narrowing, rules_are_derivations,
     subject_reduction, substitution, thinning, thinning_by_constants, type_correctness,
 };

@@ -1,5 +1,6 @@
 //! Laws of the thirteen rules.
 
+ghost use Rattle.lego_laws.specs.Generalisation.{Generalisation};
 ghost use Rattle.lego_laws.specs.Typing.{RulesAreDerivations, JudgementsStandInValidLists, Thinning, ThinningByConstants, Substitution, Narrowing, TypeCorrectness, SubjectReduction, Generation};
 
 /// The rules derive exactly on valid lists what stands over the list's constants.
@@ -45,4 +46,9 @@ pub fn type_correctness()
 /// A parallel step keeps the type.
 pub fn subject_reduction()
     ensures { SubjectReduction }
+{}
+
+/// A judgement under locals gives one of the function over all of them.
+pub fn generalisation()
+    ensures { Generalisation }
 {}
