@@ -1,9 +1,8 @@
 -- Judgements under locals as judgements over constants alone.
-use Rattle.std.proofs.Common.{List, [], ◌∷◌}
-use Rattle.lego_term.specs.Trees.{Term, Pi, Lam}
-use Rattle.lego_laws.specs.Entries.{Constant}
+use Rattle.std.proofs.Common.{[], ◌∷◌}
+use Rattle.lego_term.specs.Trees.{Pi, Lam}
 use Rattle.lego_laws.specs.Judgement.{Has}
-use Rattle.lego_laws.specs.Generalisation.{functions, products, Generalisation}
+use Rattle.lego_laws.specs.Generalisation.{Generalisation}
 
 pub generalisation : Generalisation
 generalisation es [] m a d = d

@@ -53,3 +53,5 @@ pub mod RuleTypesRenamed
 pub mod ExampleProofs
 pub mod Reaching
 pub mod Generalised
+pub mod Listed
+pub mod Abstracted

@@ -1,10 +1,10 @@
 -- What the sequences of a head form's parts reach, and where they end.
-use Rattle.std.proofs.Common.{◌≡◌, ℕ, zero, suc, ◌+◌, Option, Some, None, List, [], ◌∷◌, ◌++◌, refl, sym, ap, ◌∙◌, arith, subst}
+use Rattle.std.proofs.Common.{◌≡◌, ℕ, Option, Some, None, List, [], ◌∷◌, ◌++◌, refl}
 use Rattle.lego_term.specs.declared.binder.Binder.{Binder}
 use Rattle.lego_term.specs.declared.binder.Mark.{Mark}
 use Rattle.lego_term.specs.Trees.{Core, Var, Const, Prop, Univ, Pi, Lam, App, Sigma, Pair, Fst, Snd}
 use Rattle.lego_term.specs.Parts.{Branch, parts_of}
-use Rattle.lego_term.specs.Sequences.{head_step, normal_step, after, Ends}
+use Rattle.lego_term.specs.Sequences.{normal_step, after, Ends}
 use Rattle.lego_laws.specs.Parallel.{CoreBodies}
 use Rattle.lego_laws.specs.HeadForms.{IsHeadForm}
 use Rattle.lego_laws.specs.Counting.{PartsReach, unmoved, within, behind, PartsEnd, no_part, one_more, PartsAreReached, PartsEndTogether}

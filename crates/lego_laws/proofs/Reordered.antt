@@ -31,7 +31,7 @@ body_mentions_more : (p q : ℕ → Bool) → ((k : ℕ) → IsTrue (p k) → Is
 body_mentions_more p q h None m = tt
 body_mentions_more p q h (Some t) m = mentions_more p q h t m
 
-found_is : (o : Option Constant) → IsTrue (found_in o) → (y : Constant) × (o ≡ Some y)
+pub found_is : (o : Option Constant) → IsTrue (found_in o) → (y : Constant) × (o ≡ Some y)
 found_is None h = cc
 found_is (Some y) h = (y, refl)
 
@@ -41,14 +41,14 @@ found_more e before new k h =
     ap found_in (entry_kept e before new k y.0 y.1)
 
 -- a constant of the list mentions constants of the list
-mentions_listed : (es : List Constant) → MentionEarlier es → (k : ℕ) (y : Constant) → constant_of es k ≡ Some y → EntryMentions (has_constant es) y
+pub mentions_listed : (es : List Constant) → MentionEarlier es → (k : ℕ) (y : Constant) → constant_of es k ≡ Some y → EntryMentions (has_constant es) y
 mentions_listed [] h k y e = cc
 mentions_listed (x ∷ before) h k y e =
     let more = found_more x before h.0 in
     let raise : (z : Constant) → EntryMentions (has_constant before) z → EntryMentions (has_constant (x ∷ before)) z = λ z m. (mentions_more (has_constant before) (has_constant (x ∷ before)) more z.ty m.0, body_mentions_more (has_constant before) (has_constant (x ∷ before)) more z.body m.1) in
     elim (found (nat_eq x.number k) x y (constant_of before k) e) [ inl same ↦ subst (EntryMentions (has_constant (x ∷ before))) same (raise x h.1) | inr old ↦ raise y (mentions_listed before h.2 k y old) ]
 
-body_mentions : (p : ℕ → Bool) (o : Option Term) (t : Term) → o ≡ Some t → IfSome o (λ m. Mentions p m) → Mentions p t
+pub body_mentions : (p : ℕ → Bool) (o : Option Term) (t : Term) → o ≡ Some t → IfSome o (λ m. Mentions p m) → Mentions p t
 body_mentions p None t e h = cc
 body_mentions p (Some m) t e h = let is : m ≡ t = cc in subst (Mentions p) is h
 
@@ -68,7 +68,7 @@ module _ (es : List Constant) (x : AreValid es) where
             body_mentions (has_constant before) z.0.body t z.2 (mentions_listed before earlier k z.0 z.1).1;
       }
 
-  over_before : (before : List Constant) → AreAmong before es → MentionEarlier before → AreValid before → (g : List Term) → ValidLocals (types_of es) (bodies_of es) g → ValidLocals (types_of before) (bodies_of before) g → AllByRecursion (λ t. Mentions (has_constant before) t) g → (m a : Term) → Mentions (has_constant before) m → Mentions (has_constant before) a → Derives (types_of es) (bodies_of es) g m a → Derives (types_of before) (bodies_of before) g m a
+  pub over_before : (before : List Constant) → AreAmong before es → MentionEarlier before → AreValid before → (g : List Term) → ValidLocals (types_of es) (bodies_of es) g → ValidLocals (types_of before) (bodies_of before) g → AllByRecursion (λ t. Mentions (has_constant before) t) g → (m a : Term) → Mentions (has_constant before) m → Mentions (has_constant before) a → Derives (types_of es) (bodies_of es) g m a → Derives (types_of before) (bodies_of before) g m a
   over_before before among earlier y =
       let v = constants_valid es x in
       let w = constants_valid before y in

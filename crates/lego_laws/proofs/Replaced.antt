@@ -72,7 +72,7 @@ replace-instantiate s m n =
     ∙ ap (λ z. substitute z (replace (raised s) m)) e
     ∙ sym (instantiate_is (replace (raised s) m) (replace s n))
 
-closed_lifted : (t : Term) → loose t ≡ 0 → lift 0 1 t ≡ t
+pub closed_lifted : (t : Term) → loose t ≡ 0 → lift 0 1 t ≡ t
 closed_lifted t e = lift_one t ∙ closed_rename suc t e
 
 -- a closed term, replaced under one binder more
@@ -84,7 +84,7 @@ module _ (b b' : TermBodies) (bc : AreClosed b) (bc' : AreClosed b') where
   abbrev Stand : (ℕ → Term) → Type 0
   Stand s = (k : ℕ) (t : Term) → b k ≡ Some t → Converts b' (s k) (replace s t)
 
-  lift_converts : {t u : Term} → Converts b' t u → Converts b' (lift 0 1 t) (lift 0 1 u)
+  pub lift_converts : {t u : Term} → Converts b' t u → Converts b' (lift 0 1 t) (lift 0 1 u)
   lift_converts {t} {u} p =
       rw (lift_one t, lift_one u, rename_is suc t, rename_is suc u) (convert-substitute b' bc' (λ i. Var (suc i)) p)
 

@@ -1,5 +1,6 @@
 //! Laws of lists of constants: expansion, dropping, replacement.
 
+ghost use Rattle.lego_laws.specs.Abstraction.{Abstraction};
 ghost use Rattle.lego_laws.specs.Expansion.{Expansion, JudgementsExpand};
 ghost use Rattle.lego_laws.specs.Orders.{Reordering, ReorderedJudgements, FilledListsAreValid, JudgementsFill};
 ghost use Rattle.lego_laws.specs.Reduced.{ReducedListsAreValid, JudgementsOverReducedLists};
@@ -72,4 +73,10 @@ pub fn reduced_lists_are_valid()
 /// A judgement stands over the list with the steps made.
 pub fn judgements_over_reduced_lists()
     ensures { JudgementsOverReducedLists }
+{}
+
+/// Assumptions of a valid list may be turned into local variables: the other constants stay
+/// valid, and each judgement stands under the locals.
+pub fn abstraction()
+    ensures { Abstraction }
 {}

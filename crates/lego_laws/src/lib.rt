@@ -20,9 +20,10 @@ pub use comparison::{
     walked_steps_are_counted,
 };
 pub use constants::{
-    closing_is_replacement, dropped_lists_are_valid, expansion, filled_lists_are_valid,
-    judgements_expand, judgements_fill, judgements_over_reduced_lists, reduced_lists_are_valid,
-    reordered_judgements, reordering, replacement, strengthening, translation,
+    abstraction, closing_is_replacement, dropped_lists_are_valid, expansion,
+    filled_lists_are_valid, judgements_expand, judgements_fill, judgements_over_reduced_lists,
+    reduced_lists_are_valid, reordered_judgements, reordering, replacement, strengthening,
+    translation,
 };
 pub use examples::{
     domains_must_convert, four_head_steps, identity_is_typed, levels_dont_count_at_zero,
