@@ -1,5 +1,5 @@
 -- What excludes every typing.
-use Rattle.std.proofs.Common.{◌≡◌, ℕ, ◌≤◌, List, ◌∷◌, ◌++◌, map, ◌⊎◌, inl, inr, refl, sym, ◌∙◌, arith, subst}
+use Rattle.std.proofs.Common.{◌≡◌, ℕ, ◌+◌, ◌≤◌, List, ◌∷◌, ◌++◌, map, ◌⊎◌, inl, inr, refl, sym, ◌∙◌, arith, subst}
 use Rattle.lego_term.specs.declared.binder.Binder.{Binder}
 use Rattle.lego_term.specs.declared.binder.Mark.{Mark}
 use Rattle.lego_term.specs.Levels.{Assignment, level_value, LevelPair, SatisfiesAll}
@@ -18,12 +18,12 @@ use Rattle.lego_laws.proofs.Below.{pi_inverts}
 use Rattle.lego_laws.proofs.Head.{head_forms_compare}
 use Rattle.lego_laws.proofs.Valued.{closed_valued, head_form_converts, head_form_valued}
 use Rattle.lego_laws.proofs.Inversion.{generation}
-use Rattle.lego_laws.proofs.Bounding.{bound_of}
+use Rattle.lego_laws.proofs.Bounding.{bounded_more, bound_of}
 use Rattle.lego_laws.proofs.AtZero.{below_at_zero}
 use Rattle.lego_laws.proofs.Agreeing.{narrower, at_agree, satisfies_agree, bodies_agree, locals_agree, bounded_agree, agree_both}
 use Rattle.lego_laws.proofs.Satisfying.{satisfies_append}
 use Rattle.lego_laws.proofs.Solving.{below_with, head_within}
-use Rattle.lego_laws.proofs.FitsApp.{at-instantiate}
+use Rattle.lego_laws.proofs.FitsApp.{at-instantiate, meets}
 
 -- the parts of the head form against a head form above the type
 against : {n₀ : ℕ} {c b : CoreBodies} {held : List LevelPair} {g : List Core} → Context n₀ c b held g → (f h : Core) → HeadForm b f h → (v w : Assignment) → Agree n₀ v w → (q : Term) → IsHeadForm (bodies_at w b) q → Below (bodies_at v b) (at w f) q → PartsBelow (bodies_at w b) (at w h) q
@@ -86,21 +86,9 @@ argument_excludes n₀ n₁ n₂ c b held g x y z m n f a r q k k' ln fm head fn
     let i = generation d in
     let u₁ = bound_of i.2 in
     let u₂ = bound_of i.3 in
-    let s₁ = fm.principal v hv u₁.t (Pi tt i.0 i.1) u₁.bounded in
-    let w₁ = s₁.w in
-    let e₁ = bodies_agree v w₁ n₀ b x.bodies_within s₁.agree in
-    let run₁ = below_with (sym e₁) refl refl (Below.converts (Converts.back (head_form_converts (level_value w₁) head))) in
-    let inv = pi_inverts (bodies_at v b) (closed_valued (level_value v) b x.closed_bodies) (at w₁ a) (at w₁ r) i.0 i.1 (Below.chain run₁ s₁.below) in
-    let h₁ = satisfies_agree v w₁ held (narrower x.held_within s₁.agree) hv in
-    let s₂ = fn.principal w₁ h₁ u₂.t i.0 (bounded_agree x v w₁ s₁.agree u₂.t n i.0 ln u₂.bounded) in
-    let w₂ = s₂.w in
-    let wide = fm.grows in
-    let far = agree_both wide s₁.agree s₂.agree in
-    let e₂ = bodies_agree v w₂ n₀ b x.bodies_within far in
-    let within = head_within (λ k t e. let h = x.bodies_within k t e in omega arith) fm.type_within head in
-    let ea = at_agree w₁ w₂ a (narrower (omega arith) s₂.agree) in
-    let arg : Below (bodies_at v b) (at w₂ q) (at w₁ a) = Below.chain (below_with (sym e₁) refl refl s₂.below) (Below.converts (Converts.back inv.0)) in
-    other (below_at_zero w₂ b q a (below_with e₂ refl ea arg))
+    let t = u₁.t + u₂.t in
+    let s = meets n₀ n₁ n₂ c b held g x z m n f a r q k k' ln fm head fn v hv t i.0 i.1 (bounded_more t (omega arith) u₁.bounded) (bounded_more t (omega arith) u₂.bounded) in
+    other (below_at_zero s.w b q a s.below_domain)
 
 pub no_type_excludes : NoTypeExcludes
 no_type_excludes c b held g m w out v hv q is d = out v hv q tt d

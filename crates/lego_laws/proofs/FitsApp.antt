@@ -1,5 +1,5 @@
 -- Constraints of an application and of projections from those of their parts.
-use Rattle.std.proofs.Common.{◌≡◌, ℕ, ◌≤◌, List, ◌++◌, map, ◌↔◌, refl, sym, ap, ap₂, ◌∙◌, arith}
+use Rattle.std.proofs.Common.{◌≡◌, ℕ, ◌≤◌, List, ◌++◌, map, get_or, ◌↔◌, refl, sym, ap, ap₂, ◌∙◌, arith}
 use Rattle.lego_term.specs.declared.binder.Binder.{Binder}
 use Rattle.lego_term.specs.declared.binder.Mark.{Mark}
 use Rattle.lego_term.specs.Levels.{Assignment, level_value, LevelPair, SatisfiesAll}
@@ -24,10 +24,48 @@ use Rattle.lego_laws.proofs.Solving.{runs_keep, head_run, head_within, below_wit
 pub at-instantiate : (v : Assignment) (m n : Core) → at v (instantiate m n) ≡ instantiate (at v m) (at v n)
 at-instantiate v m n = map-instantiate (λ x. tt) (λ x. tt) (level_value v) m n
 
-module _ (n₀ n₁ n₂ : ℕ) (c b : CoreBodies) (held : List LevelPair) (g : List Core) (x : Context n₀ c b held g) (mark : Mark) (y : Binder) (m n f a r q : Core) (k₁ k₂ k₃ : List LevelPair) (lm : levels_bound m ≤ n₀) (ln : levels_bound n ≤ n₀) (fm : FitsBetween n₀ n₁ c b held g m f k₁) (head : HeadForm b f (Pi y a r)) (fn : FitsBetween n₁ n₂ c b held g n q k₂) (l₃ : pairs_bound k₃ ≤ n₂) (ok : (v : Assignment) → SatisfiesAll v k₃ ↔ Below (bodies_at v b) (at v q) (at v a)) where
+-- an argument against the domain of a function's type
+module _ (n₀ n₁ n₂ : ℕ) (c b : CoreBodies) (held : List LevelPair) (g : List Core) (x : Context n₀ c b held g) (y : Binder) (m n f a r q : Core) (k₁ k₂ : List LevelPair) (ln : levels_bound n ≤ n₀) (fm : FitsBetween n₀ n₁ c b held g m f k₁) (head : HeadForm b f (Pi y a r)) (fn : FitsBetween n₁ n₂ c b held g n q k₂) where
   parts_within : levels_bound (Pi y a r) ≤ n₁
   parts_within = head_within (λ k t e. let h = x.bodies_within k t e in let y = fm.grows in omega arith) fm.type_within head
 
+  -- an assignment at which both parts fit, and the argument's type is below the domain
+  pub record Met (v : Assignment) (t : ℕ) (z : Term) : Type 0 where
+    pub w : Assignment
+    pub agree : Agree n₀ v w
+    pub function_fits : SatisfiesAll w k₁
+    pub argument_fits : SatisfiesAll w k₂
+    pub below_domain : Below (bodies_at w b) (at w q) (at w a)
+    pub below_codomain : Below (bodies_at v b) (at w r) z
+    pub small : (u : ℕ) → n₀ ≤ u → get_or w u 0 ≤ t
+
+  met_by : (v : Assignment) (t : ℕ) (z₀ z₁ : Term) (s₁ : Solution n₀ v b k₁ f (Pi tt z₀ z₁) t) → Solution n₁ s₁.w b k₂ q z₀ t → Met v t z₁
+  met_by v t z₀ z₁ s₁ s₂ =
+      let wide = fm.grows in
+      let within = parts_within in
+      let far = agree_both wide s₁.agree s₂.agree in
+      let e₁ = bodies_agree v s₁.w n₀ b x.bodies_within s₁.agree in
+      let e₂ = bodies_agree v s₂.w n₀ b x.bodies_within far in
+      let ea = at_agree s₁.w s₂.w a (narrower (omega arith) s₂.agree) in
+      let er = at_agree s₁.w s₂.w r (narrower (omega arith) s₂.agree) in
+      let from_head = below_with (sym e₁) refl refl (Below.converts (Converts.back (head_form_converts (level_value s₁.w) head))) in
+      let inv = pi_inverts (bodies_at v b) (closed_valued (level_value v) b x.closed_bodies) (at s₁.w a) (at s₁.w r) z₀ z₁ (Below.chain from_head s₁.below) in
+      record {
+        w = s₂.w;
+        agree = far;
+        function_fits = satisfies_agree s₁.w s₂.w k₁ (narrower fm.pairs_within s₂.agree) s₁.satisfies;
+        argument_fits = s₂.satisfies;
+        below_domain = below_with e₂ refl ea (Below.chain (below_with (sym e₁) refl refl s₂.below) (Below.converts (Converts.back inv.0)));
+        below_codomain = below_with refl er refl inv.1;
+        small = small_both n₀ n₁ t s₁.w s₂.w s₂.agree s₁.small s₂.small;
+      }
+
+  pub meets : (v : Assignment) → SatisfiesAll v held → (t : ℕ) (z₀ z₁ : Term) → Bounded t (bodies_at v c) (bodies_at v b) (map (at v) g) (at v m) (Pi tt z₀ z₁) → Bounded t (bodies_at v c) (bodies_at v b) (map (at v) g) (at v n) z₀ → Met v t z₁
+  meets v h t z₀ z₁ d e =
+      let s₁ = fm.principal v h t (Pi tt z₀ z₁) d in
+      met_by v t z₀ z₁ s₁ (fn.principal s₁.w (satisfies_agree v s₁.w held (narrower x.held_within s₁.agree) h) t z₀ (bounded_agree x v s₁.w s₁.agree t n z₀ ln e))
+
+module _ (n₀ n₁ n₂ : ℕ) (c b : CoreBodies) (held : List LevelPair) (g : List Core) (x : Context n₀ c b held g) (mark : Mark) (y : Binder) (m n f a r q : Core) (k₁ k₂ k₃ : List LevelPair) (lm : levels_bound m ≤ n₀) (ln : levels_bound n ≤ n₀) (fm : FitsBetween n₀ n₁ c b held g m f k₁) (head : HeadForm b f (Pi y a r)) (fn : FitsBetween n₁ n₂ c b held g n q k₂) (l₃ : pairs_bound k₃ ≤ n₂) (ok : (v : Assignment) → SatisfiesAll v k₃ ↔ Below (bodies_at v b) (at v q) (at v a)) where
   app_sound : (v : Assignment) → SatisfiesAll v held → SatisfiesAll v (k₁ ++ (k₂ ++ k₃)) → Derives (bodies_at v c) (bodies_at v b) (map (at v) g) (at v (App mark m n)) (at v (instantiate r n))
   app_sound v h k =
       let c' = bodies_at v c in
@@ -46,44 +84,28 @@ module _ (n₀ n₁ n₂ : ℕ) (c b : CoreBodies) (held : List LevelPair) (g : 
       let da = generation tp in
       rw at-instantiate (d_app dp (d_cum dn da.1 lower))
 
+  by_met : (v : Assignment) → SatisfiesAll v held → (t : ℕ) (z p : Term) → Met n₀ n₁ n₂ c b held g x y m n f a r q k₁ k₂ ln fm head fn v t z → Below (bodies_at v b) (instantiate z (at v n)) p → Solution n₀ v b (k₁ ++ (k₂ ++ k₃)) (instantiate r n) p t
+  by_met v h t z p s le =
+      let inst = below-instantiate (bodies_at v c) (bodies_at v b) (closed_valued (level_value v) c x.closed_types) (closed_valued (level_value v) b x.closed_bodies) (x.valid v h) (at v n) s.below_codomain in
+      let type_is = ap (instantiate (at s.w r)) (at_agree v s.w n (narrower ln s.agree)) ∙ sym (at-instantiate s.w r n) in
+      record {
+        w = s.w;
+        agree = s.agree;
+        satisfies = satisfies_append s.w k₁ (k₂ ++ k₃) s.function_fits (satisfies_append s.w k₂ k₃ s.argument_fits ((ok s.w).1 s.below_domain));
+        below = Below.chain (below_with refl type_is refl inst) le;
+        small = s.small;
+      }
+
   app_principal : (v : Assignment) → SatisfiesAll v held → (t : ℕ) (p : Term) → Bounded t (bodies_at v c) (bodies_at v b) (map (at v) g) (at v (App mark m n)) p → Solution n₀ v b (k₁ ++ (k₂ ++ k₃)) (instantiate r n) p t
   app_principal v h t p d =
-      let bv = bodies_at v b in
-      let bc = closed_valued (level_value v) b x.closed_bodies in
       let z = generation_up d in
-      let s₁ = fm.principal v h t (Pi tt z.0 z.1) z.2 in
-      let w₁ = s₁.w in
-      let e₁ = bodies_agree v w₁ n₀ b x.bodies_within s₁.agree in
-      let run₁ = below_with (sym e₁) refl refl (Below.converts (Converts.back (head_form_converts (level_value w₁) head))) in
-      let inv = pi_inverts bv bc (at w₁ a) (at w₁ r) z.0 z.1 (Below.chain run₁ s₁.below) in
-      let h₁ = satisfies_agree v w₁ held (narrower x.held_within s₁.agree) h in
-      let s₂ = fn.principal w₁ h₁ t z.0 (bounded_agree x v w₁ s₁.agree t n z.0 ln z.3) in
-      let w₂ = s₂.w in
-      let wide = fm.grows in
-      let far = agree_both wide s₁.agree s₂.agree in
-      let e₂ = bodies_agree v w₂ n₀ b x.bodies_within far in
-      let pw = parts_within in
-      let ea = at_agree w₁ w₂ a (narrower (omega arith) s₂.agree) in
-      let er = at_agree w₁ w₂ r (narrower (omega arith) s₂.agree) in
-      let en = at_agree v w₂ n (narrower ln far) in
-      let arg : Below bv (at w₂ q) (at w₁ a) = Below.chain (below_with (sym e₁) refl refl s₂.below) (Below.converts (Converts.back inv.0)) in
-      let third = (ok w₂).1 (below_with e₂ refl ea arg) in
-      let first = satisfies_agree w₁ w₂ k₁ (narrower fm.pairs_within s₂.agree) s₁.satisfies in
-      let inst = below-instantiate (bodies_at v c) bv (closed_valued (level_value v) c x.closed_types) bc (x.valid v h) (at v n) inv.1 in
-      let type_is : instantiate (at w₁ r) (at v n) ≡ at w₂ (instantiate r n) = ap₂ instantiate er en ∙ sym (at-instantiate w₂ r n) in
-      record {
-        w = w₂;
-        agree = far;
-        satisfies = satisfies_append w₂ k₁ (k₂ ++ k₃) first (satisfies_append w₂ k₂ k₃ s₂.satisfies third);
-        below = Below.chain (below_with refl type_is refl inst) z.4;
-        small = small_both n₀ n₁ t w₁ w₂ s₂.agree s₁.small s₂.small;
-      }
+      by_met v h t z.1 p (meets n₀ n₁ n₂ c b held g x y m n f a r q k₁ k₂ ln fm head fn v h t z.0 z.1 z.2 z.3) z.4
 
   pub app_fits : FitsBetween n₀ n₂ c b held g (App mark m n) (instantiate r n) (k₁ ++ (k₂ ++ k₃))
   app_fits =
       let w₁ = fm.grows in
       let w₂ = fn.grows in
-      let pw = parts_within in
+      let pw = parts_within n₀ n₁ n₂ c b held g x y m n f a r q k₁ k₂ ln fm head fn in
       record {
         grows = omega arith;
         type_within = omega (arith, levels-instantiate r n);

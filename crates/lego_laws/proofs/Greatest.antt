@@ -1,6 +1,6 @@
 -- A derivation by the rules is bounded by its greatest universe.
 use Rattle.std.proofs.Common.{ℕ, ◌≤◌, List, [], ◌∷◌, arith}
-use Rattle.lego_term.specs.Trees.{Term, Univ}
+use Rattle.lego_term.specs.Trees.{Term, Univ, Sigma, Pair, instantiate}
 use Rattle.lego_laws.specs.Entries.{Constant, constant_of, bodies_of}
 use Rattle.lego_laws.specs.Judgement.{Valid, Has}
 use Rattle.lego_laws.specs.Derivations.{types_of}
@@ -19,6 +19,9 @@ Within limit e g m a = Bounded limit (types_of e) (bodies_of e) g m a × Locals 
 
 opened : {limit : ℕ} {e : List Constant} {g : List Term} {a : Term} → Locals limit e (a ∷ g) → (j : ℕ) × Bounded limit (types_of e) (bodies_of e) g a (Univ j) × Locals limit e g
 opened (l_more {j = j} d l) = (j, d, l)
+
+pair_case : {limit : ℕ} {e : List Constant} {g : List Term} {a b m n : Term} {j : ℕ} → Bounded limit (types_of e) (bodies_of e) (a ∷ g) b (Univ j) → Locals limit e (a ∷ g) → Bounded limit (types_of e) (bodies_of e) g m a → Bounded limit (types_of e) (bodies_of e) g n (instantiate b m) → Bounded limit (types_of e) (bodies_of e) g (Pair tt a b m n) (Sigma tt a b) × Locals limit e g
+pair_case h l p q = let o = opened l in (b_pair o.1 h p q, o.2)
 
 mutual
   unfolding Within top top_valid
@@ -46,8 +49,7 @@ mutual
       (b_sigma u h.0 (bounded_within limit f (omega arith)).0, h.1)
   bounded_within limit (Has.pair d f r) le =
       let h = bounded_within limit r (omega arith) in
-      let o = opened h.1 in
-      (b_pair o.1 h.0 (bounded_within limit d (omega arith)).0 (bounded_within limit f (omega arith)).0, o.2)
+      pair_case h.0 h.1 (bounded_within limit d (omega arith)).0 (bounded_within limit f (omega arith)).0
   bounded_within limit (Has.first d) le = let h = bounded_within limit d le in (b_fst h.0, h.1)
   bounded_within limit (Has.second d) le = let h = bounded_within limit d le in (b_snd h.0, h.1)
   bounded_within limit (Has.cumulative d f l) le = let h = bounded_within limit d (omega arith) in (b_cum h.0 l, h.1)
