@@ -10,3 +10,6 @@ pub mod DenotesNames
 pub mod DenotesTypes
 pub mod DenotesEntries
 pub mod DenotesPrintable
+pub mod TextLemmas
+pub mod BindingLemmas
+pub mod BindAllLemmas

@@ -7,7 +7,9 @@ use Rattle.lego_base.specs.declared.place.Place.{Place}
 use Rattle.lego_term.specs.Trees.{Core, Const, Prop, Pi}
 use Rattle.lego_term.specs.declared.binder.Mark.{Mark}
 use Rattle.lego_term.specs.declared.binder.Mark.TheVariants.{Plain, Implicit}
-use Rattle.lego_grammar.specs.Surface.{written, written_step, applied, projected}
+use Rattle.lego_grammar.specs.Surface.{written, written_step, applied, projected, bound_of, says_of}
+use Rattle.lego_grammar.specs.declared.command.Binding.{Binding}
+use Rattle.std.specs.List.{list_all}
 use Rattle.lego_grammar.specs.Written.{Written, Named, WrittenProp, AnyType, TypeAt, GoalAt, Bind, Local, Apply, Couple, Project}
 use Rattle.lego_grammar.specs.declared.surface.Part.{Part}
 use Rattle.lego_grammar.specs.declared.surface.Kind.{Kind}
@@ -20,7 +22,7 @@ use Rattle.lego_kernel.specs.Contexts.{AreSimple, IsContext}
 use Rattle.lego_kernel.specs.Entries.{position_of, is_named}
 use Rattle.lego_kernel.specs.Simple.{IsSimpleOver}
 use Rattle.lego_kernel.specs.declared.entry.Entry.{Entry as Item}
-use Rattle.lego_session.specs.Reading.{is_arrow, is_simple, arrow_binder, ReadsType, FirstUnknown, FirstTooLarge, IsNotRead, IsReading, IsMade}
+use Rattle.lego_session.specs.Reading.{is_arrow, is_simple, is_simple_assumption, arrow_binder, ReadsType, FirstUnknown, FirstTooLarge, IsNotRead, IsReading, IsMade}
 use Rattle.lego_session.specs.Reading as reading
 use Rattle.lego_session.specs.declared.reading.ReadFault.{ReadFault}
 use Rattle.lego_session.specs.declared.reading.ReadFault.TheVariants.{NotBuilt, Unknown, TooLarge, Memory}
@@ -167,3 +169,8 @@ pub is_there : (es : List Item) (i : ℕ) → i < length es → slice_get es i �
 is_there [] i l h = omega (arith, l)
 is_there (e ∷ es) zero l h = cc
 is_there (e ∷ es) (suc i) l h = is_there es i (omega arith) h
+
+-- a test of the bindings as they are written and as the grammar sees them
+pub built-map : (bs : List Binding) → list_all (λ b. is_simple_assumption b.says) (map bound_of bs) ≡ list_all (λ b. is_simple_assumption (says_of b.kind)) bs
+built-map [] = refl
+built-map (b ∷ bs) = ap (λ x. is_simple_assumption (says_of b.kind) && x) (built-map bs)

@@ -1,5 +1,5 @@
 -- The text of a refusal.
-use Rattle.std.specs.Prelude.{ℕ, ◌+◌, ◌-◌, ◌/◌, ◌%◌, nat_le, nat_lt, ◌&&◌, if◌then◌else◌, List, [], ◌∷◌, ◌++◌, codes, decimal}
+use Rattle.std.specs.Prelude.{◌≡◌, ◌⊎◌, ℕ, ◌+◌, ◌-◌, ◌/◌, ◌%◌, nat_le, nat_lt, ◌&&◌, if◌then◌else◌, List, [], ◌∷◌, ◌++◌, codes, decimal}
 use Rattle.lego_base.specs.declared.place.Place.{Place}
 use Rattle.lego_term.specs.declared.seen.Seen.{Seen}
 use Rattle.lego_grammar.specs.Grammar.{Names}
@@ -52,3 +52,8 @@ cause_text names es Memory = []
 -- a refusal's line, with the names of these entries
 abbrev pub refusal_text : Names → List Item → Place → Cause → List ℕ
 refusal_text names es place cause = codes "refused " ++ place_text place ++ codes " " ++ cause_text names es cause ++ codes "\n"
+
+-- the refusal has the place, the cause and their text; without memory it says so, and has no text
+abbrev pub IsRefusedBy : Names → List Item → Place → Cause → Place → Cause → List ℕ → Type 0
+IsRefusedBy names es place cause p c text =
+    ((c ≡ Memory) × (text ≡ [])) ⊎ ((p ≡ place) × (c ≡ cause) × (text ≡ refusal_text names es place cause))

@@ -1,6 +1,6 @@
 -- One step: what an accepted command makes of the entries, and why a command is refused.
-use Rattle.std.specs.Prelude.{◌≡◌, ℕ, ◌+◌, ◌<◌, ◌≤◌, Bool, true, false, nat_eq, List, [], ◌∷◌, ◌++◌, take, drop, length, slice_get, Some, None, IsTrue}
-use Rattle.std.specs.List.{list_any}
+use Rattle.std.specs.Prelude.{◌≡◌, ℕ, ◌+◌, ◌<◌, ◌≤◌, Bool, true, false, nat_eq, List, [], ◌∷◌, ◌++◌, take, drop, length, slice_get, Some, None, ◌⊎◌}
+use Rattle.std.specs.List.{list_any, AllByRecursion}
 use Rattle.lego_base.specs.declared.place.Place.{Place}
 use Rattle.lego_term.specs.Trees.{Core}
 use Rattle.lego_term.specs.declared.binder.Mark.{Mark}
@@ -16,7 +16,7 @@ use Rattle.lego_session.specs.Reading.{ReadsType, FirstUnknown, FirstTooLarge}
 use Rattle.lego_session.specs.Refusals.{refusal_text}
 use Rattle.lego_session.specs.Texts.{entry_lines}
 use Rattle.lego_session.specs.declared.refusal.Cause.{Cause}
-use Rattle.lego_session.specs.declared.refusal.Cause.TheVariants.{UnknownName, NameInUse, NotAType, TooLarge, Full}
+use Rattle.lego_session.specs.declared.refusal.Cause.TheVariants.{UnknownName, NameInUse, NotAType, TooLarge, Full, Memory}
 
 -- name i of a list is new: no entry has it, and it stands at no earlier place of the list
 pub record IsNew (es : List Item) (ns : List ℕ) (i n : ℕ) : Type 0 where
@@ -41,6 +41,10 @@ pub record IsRead (es : List Item) (b : Bound) (ty : Core) : Type 0 where
   pub written : Written
   pub says : b.says ≡ Assumed Plain written
   pub reads : ReadsType es written ty
+
+-- each binding has a name, and a place for each of its names
+abbrev pub HasPlaces : List Bound → Type 0
+HasPlaces bs = AllByRecursion (λ b. (length b.places ≡ length b.names) × (0 < length b.names)) bs
 
 -- A binding makes new entries: its type is read once, before them, and there is room for all.
 pub record Binds (es : List Item) (b : Bound) (new : List Item) : Type 0 where
@@ -75,6 +79,11 @@ pub data AreRefused : List Item → List Bound → List Item → Place → Cause
   later : {es mid last : List Item} {b : Bound} {bs : List Bound} {p : Place} {cause : Cause}
       → Binds es b mid → AreRefused mid bs last p cause → AreRefused es (b ∷ bs) last p cause
 
+-- the bindings of a context command
+abbrev pub bounds_of : Deed → List Bound
+bounds_of (Bindings bs) = bs
+bounds_of _ = []
+
 -- what a command is answered: its text, and whether it is refused
 pub record Answer : Type 0 where
   pub refused : Bool
@@ -87,3 +96,9 @@ pub data Step (names : Names) : List Item → Order → Answer → List Item →
       → Step names old o (record { refused = false; text = entry_lines names new (drop (length old) new) }) new
   refused : {old last : List Item} {o : Order} {bs : List Bound} {p : Place} {cause : Cause} → o.deed ≡ Bindings bs → AreRefused old bs last p cause
       → Step names old o (record { refused = true; text = refusal_text names last p cause }) old
+
+-- why a command is refused, and the text of that; want of memory is free, and has no text
+abbrev pub IsRefusal : Names → List Item → Order → Place → Cause → List ℕ → Type 0
+IsRefusal names old o p cause text =
+    ((cause ≡ Memory) × (text ≡ []))
+    ⊎ ((bs : List Bound) × (last : List Item) × (o.deed ≡ Bindings bs) × AreRefused old bs last p cause × (text ≡ refusal_text names last p cause))

@@ -2,6 +2,7 @@
 #![tactic(auto)]
 
 mod answer;
+mod binding;
 mod reading;
 mod refusal;
 mod refusal_text;
@@ -15,5 +16,5 @@ mod text;
 
 pub use refusal::{Cause, Refusal};
 pub use running::run;
-pub use session::Session;
+pub use session::{Answer, Session};
 pub use status::Status;

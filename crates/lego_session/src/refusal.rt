@@ -1,8 +1,13 @@
 //! Refusals of commands.
 
-use lego_base::Place;
-use lego_kernel::Counted;
+ghost use Rattle.std.specs.Prelude.{◌≡◌, []};
+ghost use Rattle.lego_session.specs.Refusals.{IsRefusedBy};
+
+use crate::refusal_text::refusal_text;
+use lego_base::{Names, Place};
+use lego_kernel::{Context, Counted};
 use lego_term::{List, Seen};
+use std::alloc::Global;
 
 /// Why a command is refused.
 #[derive(Drop)]
@@ -47,4 +52,38 @@ pub struct Refusal {
     pub place: Place,
     pub cause: Cause,
     pub text: List<u8>,
+}
+
+impl Refusal {
+    /// The refusal for want of memory.
+    pub(crate) fn memory(alloc: Global, place: Place) -> Refusal
+        ensures cause { result.cause ≡ Cause.Memory }
+        ensures text { result.text ≡ [] }
+    {
+        Refusal {
+            place,
+            cause: Cause::Memory,
+            text: List::of(Vec::new(alloc)),
+        }
+    }
+
+    /// The refusal for a cause, with the names of the context's entries in its text.
+    pub(crate) fn of(
+        alloc: Global,
+        names: &Names,
+        context: &Context,
+        place: Place,
+        cause: Cause,
+    ) -> Refusal
+        ensures { IsRefusedBy names.now context.now place cause result.place result.cause result.text }
+    {
+        match refusal_text(alloc, names, context, place, &cause) {
+            Ok(text) => Refusal {
+                place,
+                cause,
+                text: List::of(text),
+            },
+            Err(_) => Refusal::memory(alloc, place),
+        }
+    }
 }

@@ -1,5 +1,6 @@
 //! The text of a refusal.
-ghost use Rattle.std.specs.Prelude.{◌≡◌, ◌<◌, ◌++◌, decimal, OnOk, IfOk};
+ghost use Rattle.std.specs.Prelude.{◌≡◌, ◌<◌, ◌++◌, codes, decimal, OnOk, IfOk};
+ghost use Rattle.lego_session.specs.Texts.{type_text};
 ghost use Rattle.lego_session.specs.Refusals.{place_text, hex_digit, byte_text, counted_text, cause_text, refusal_text};
 
 use crate::refusal::Cause;
@@ -7,6 +8,7 @@ use crate::text::{name_text, push_type};
 use itoa::Buffer;
 use lego_base::{Names, Place};
 use lego_kernel::{Context, Counted};
+use lego_term::Term;
 use std::alloc::{AllocError, Global};
 
 /// Adds the decimal digits of a number.
@@ -55,6 +57,48 @@ fn push_counted(text: &mut Vec<u8>, of: Counted) -> Result<(), AllocError>
     }
 }
 
+/// Adds two pieces.
+fn push_both(text: &mut Vec<u8>, first: &[u8], second: &[u8]) -> Result<(), AllocError>
+    ensures { OnOk result (text.new.items ≡ text.old.items ++ (first.now ++ second.now)) }
+{
+    text.extend_from_slice(first)?;
+    text.extend_from_slice(second)
+}
+
+/// Adds a piece and a number.
+fn push_counting(text: &mut Vec<u8>, piece: &[u8], number: u64) -> Result<(), AllocError>
+    ensures { OnOk result (text.new.items ≡ text.old.items ++ (piece.now ++ decimal number)) }
+{
+    text.extend_from_slice(piece)?;
+    push_number(text, number)
+}
+
+/// Adds what is refused as no type, and its rule type.
+fn push_not_a_type(
+    text: &mut Vec<u8>,
+    names: &Names,
+    context: &Context,
+    term: &Term,
+    got: &Term,
+) -> Result<(), AllocError>
+    ensures { OnOk result (text.new.items ≡ text.old.items ++ (codes "13 NotAType " ++ type_text names.now context.now 0 term.now ++ codes " : " ++ type_text names.now context.now 0 got.now)) }
+{
+    text.extend_from_slice(b"13 NotAType ")?;
+    push_type(text, names, context, 0, term)?;
+    text.extend_from_slice(b" : ")?;
+    push_type(text, names, context, 0, got)
+}
+
+/// Adds the size and the depth of a term that is too large.
+fn push_too_large(text: &mut Vec<u8>, size: u64, depth: u32) -> Result<(), AllocError>
+    ensures { OnOk result (text.new.items ≡ text.old.items ++ (codes "19 TooLarge " ++ decimal size ++ codes ", " ++ decimal depth)) }
+{
+    text.extend_from_slice(b"19 TooLarge ")?;
+    push_number(text, size)?;
+    text.extend_from_slice(b", ")?;
+    push_number(text, u64::from(depth))
+}
+
 /// Adds the number and the name of a cause, and its details.
 fn push_cause(
     text: &mut Vec<u8>,
@@ -78,31 +122,16 @@ fn push_cause(
         }
         Cause::TooDeep => text.extend_from_slice(b"6 TooDeep"),
         Cause::Unended => text.extend_from_slice(b"7 Unended"),
-        Cause::LongCommand { bytes } => {
-            text.extend_from_slice(b"8 LongCommand ")?;
-            push_number(text, *bytes)
-        }
+        Cause::LongCommand { bytes } => push_counting(text, b"8 LongCommand ", *bytes),
         Cause::NamesFull => text.extend_from_slice(b"9 NamesFull"),
         Cause::UnknownName { name } => {
-            text.extend_from_slice(b"10 UnknownName ")?;
-            text.extend_from_slice(name_text(names, *name))
+            push_both(text, b"10 UnknownName ", name_text(names, *name))
         }
-        Cause::NameInUse { name } => {
-            text.extend_from_slice(b"12 NameInUse ")?;
-            text.extend_from_slice(name_text(names, *name))
-        }
+        Cause::NameInUse { name } => push_both(text, b"12 NameInUse ", name_text(names, *name)),
         Cause::NotAType { term, got } => {
-            text.extend_from_slice(b"13 NotAType ")?;
-            push_type(text, names, context, 0, &term.term)?;
-            text.extend_from_slice(b" : ")?;
-            push_type(text, names, context, 0, &got.term)
+            push_not_a_type(text, names, context, &term.term, &got.term)
         }
-        Cause::TooLarge { size, depth } => {
-            text.extend_from_slice(b"19 TooLarge ")?;
-            push_number(text, *size)?;
-            text.extend_from_slice(b", ")?;
-            push_number(text, u64::from(*depth))
-        }
+        Cause::TooLarge { size, depth } => push_too_large(text, *size, *depth),
         Cause::Full { of, held } => {
             text.extend_from_slice(b"21 Full ")?;
             push_counted(text, *of)?;
