@@ -78,9 +78,11 @@ struct AllAnswered {
 /// Answers the commands one after the other, and writes each answer before the next command.
 fn answer_all<K: Sink>(alloc: Global, text: &[u8], out: &mut K) -> Result<AllAnswered, Status>
     requires { length text.now ≤ 16777216 }
-    ensures ok { IfOk result (λ a. AreAnswered text.now a.names a.session a.refused (ending_of a.rest) (K.taken out.old) (K.taken out.new)) }
+    ensures ok { IfOk result (λ a. AreAnswered text.now a.names a.session a.refused
+        (ending_of a.rest) (K.taken out.old) (K.taken out.new)) }
     ensures known { IfOk result (λ a. AreKnown a.names a.session) }
-    ensures err { IfErr result (λ status. Halted text.now (K.taken out.old) (K.taken out.new) (K.faults out.old) (K.faults out.new) status) }
+    ensures err { IfErr result (λ status. Halted text.now (K.taken out.old) (K.taken out.new)
+        (K.faults out.old) (K.faults out.new) status) }
     ensures later { K.faults out.old ≤ K.faults out.new }
 {
     let mut names = Names::new(alloc);
@@ -115,7 +117,8 @@ fn answer_all<K: Sink>(alloc: Global, text: &[u8], out: &mut K) -> Result<AllAns
 
 /// The refusal of what stands behind the last command, if it is refused.
 fn refusal_of_rest(alloc: Global, names: &Names, rest: Rest) -> Result<Vec<u8>, AllocError>
-    ensures { IfOk result (λ text. (es : List Item) → text.items ≡ ending_text names.now es (ending_of rest)) }
+    ensures { IfOk result (λ text. (es : List Item)
+        → text.items ≡ ending_text names.now es (ending_of rest)) }
 {
     let (place, cause) = match rest {
         Rest::Blank => return Ok(Vec::new(alloc)),
@@ -134,7 +137,8 @@ fn closing(
     rest: Rest,
 ) -> Result<Vec<u8>, AllocError>
     requires { AreKnown names.now session.now }
-    ensures text { IfOk result (λ text. text.items ≡ closing_text names.now session.now (ending_of rest)) }
+    ensures text { IfOk result (λ text.
+        text.items ≡ closing_text names.now session.now (ending_of rest)) }
     ensures valid { IfOk result (λ text. IsContext session.now) }
 {
     let mut text = refusal_of_rest(alloc, names, rest)?;
@@ -146,7 +150,9 @@ fn closing(
 /// Writes what follows the answers, and says how the run ended.
 fn finish<K: Sink>(alloc: Global, answered: &AllAnswered, out: &mut K) -> Status
     requires { AreKnown answered.now.names answered.now.session }
-    ensures { Finished answered.now.names answered.now.session answered.now.refused (ending_of answered.now.rest) (K.taken out.old) (K.taken out.new) (K.faults out.old) (K.faults out.new) result }
+    ensures { Finished answered.now.names answered.now.session answered.now.refused
+        (ending_of answered.now.rest) (K.taken out.old) (K.taken out.new)
+        (K.faults out.old) (K.faults out.new) result }
 {
     let Ok(text) = closing(alloc, &answered.names, &answered.session, answered.rest) else {
         return Status::Memory;
@@ -163,7 +169,8 @@ fn finish<K: Sink>(alloc: Global, answered: &AllAnswered, out: &mut K) -> Status
 
 /// Runs the commands of a script, where there are no words.
 fn run_script<S: Source, K: Sink>(alloc: Global, script: &mut S, out: &mut K) -> Status
-    ensures output { Outcome (S.left script.old) (S.left script.new) (K.taken out.old) (K.taken out.new) result }
+    ensures output { Outcome (S.left script.old) (S.left script.new)
+        (K.taken out.old) (K.taken out.new) result }
     ensures read { result ≡ Status.ReadFault → Rose (S.faults script.old) (S.faults script.new) }
     ensures write { result ≡ Status.WriteFault → Rose (K.faults out.old) (K.faults out.new) }
 {
@@ -204,7 +211,8 @@ pub fn run<S: Source, K: Sink>(
 ) -> Status
     // Without words, what was taken is the output of a run over the bytes that were read, or a
     // front of it.
-    ensures output { words.now ≡ [] → Outcome (S.left script.old) (S.left script.new) (K.taken out.old) (K.taken out.new) result }
+    ensures output { words.now ≡ [] → Outcome (S.left script.old) (S.left script.new)
+        (K.taken out.old) (K.taken out.new) result }
     // With words it is one line, and the source is not touched.
     ensures usage { words.now ≢ [] → UsageOutcome (K.taken out.old) (K.taken out.new) result }
     ensures untouched { words.now ≢ [] → script.new ≡ script.old }

@@ -29,7 +29,8 @@ pub(crate) fn read_all<S: Source>(script: &mut S, text: &mut Vec<u8>) -> End
     requires { text.old.items ≡ [] }
     ensures consumed { Consumes (S.left script.old) (S.left script.new) text.new.items }
     ensures later { S.faults script.old ≤ S.faults script.new }
-    ensures end { IsRead (S.left script.new) (S.faults script.old) (S.faults script.new) (length text.new.items) result }
+    ensures end { IsRead (S.left script.new) (S.faults script.old) (S.faults script.new)
+        (length text.new.items) result }
 {
     let mut piece = [0u8; PIECE];
     while text.len() <= MAX_SCRIPT {
