@@ -11,3 +11,4 @@ pub mod DenotesTypes
 pub mod DenotesEntries
 pub mod DenotesLemmas
 pub mod PrintableLemmas
+pub mod PlacesLemmas
