@@ -4,7 +4,7 @@ use Rattle.std.specs.Prelude.{slice_range}
 use Rattle.std.proofs.lemmas.List.Folds.{drop_split}
 use Rattle.std.proofs.lemmas.Bool.Decides.{nat_tests}
 use mathlib.Core.Bool.{true≢false}
-use Rattle.lego_lexer.specs.Bytes.{is_blank, begins_comment, behind_comments, Gap, BeginsToken, IsComment, IsOpenComment}
+use Rattle.lego_lexer.specs.Bytes.{is_blank, begins_comment, behind_comments, Gap, BeginsToken, IsOpenComment}
 use Rattle.lego_lexer.specs.Commands.{Unbroken, IsCut}
 use Rattle.lego_lexer.specs.Scanned.{BeginsSemicolon}
 use Rattle.lego_lexer.specs.declared.token.Cut.TheVariants as Cut

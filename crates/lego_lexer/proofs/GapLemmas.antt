@@ -1,5 +1,5 @@
 -- Gaps in ranges of bytes.
-use Rattle.std.proofs.Common.{◌≡◌, ℕ, ◌+◌, ◌<◌, ◌≤◌, true, false, List, ◌∷◌, ◌++◌, length, get_or, drop, Some, sym, ap, ◌∙◌, subst, arith, drop-cons}
+use Rattle.std.proofs.Common.{◌≡◌, ℕ, ◌+◌, ◌<◌, ◌≤◌, true, false, List, length, get_or, drop, Some, sym, ap, ◌∙◌, subst, arith, drop-cons}
 use Rattle.std.specs.Prelude.{slice_range}
 use Rattle.lego_lexer.specs.Bytes.{is_blank, begins_comment, behind_comments, Gap, BeginsToken}
 use Rattle.lego_lexer.proofs.SliceLemmas.{slice_none, slice_all, slice_cons, slice_join}

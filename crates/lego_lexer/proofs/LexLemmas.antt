@@ -6,12 +6,11 @@ use Rattle.std.proofs.lemmas.List.Elements.{All-append}
 use Rattle.std.proofs.lemmas.List.Folds.{drop_split}
 use Rattle.lego_base.specs.Place.{behind}
 use Rattle.lego_base.specs.declared.place.Place.{Place}
-use Rattle.lego_lexer.specs.Bytes.{Gap, BeginsToken, IsOpenComment}
+use Rattle.lego_lexer.specs.Bytes.{Gap, BeginsToken}
 use Rattle.lego_lexer.specs.Tokens.{Lexeme, Point, Placed, Reads, Refused, FaultAt, WithinLimits, AllWithinLimits, placed, placed_at, past, start}
 use Rattle.lego_lexer.specs.Scanned.{IsToken, IsTokenAt, IsFirst, IsNext, IsFault, point}
 use Rattle.lego_lexer.specs.declared.token.Token.{Token}
 use Rattle.lego_lexer.specs.declared.token.LexFault.{LexFault}
-use Rattle.lego_lexer.specs.declared.token.LexFault.TheVariants.{OpenComment}
 use Rattle.lego_lexer.specs.declared.tokens.Cursor.{Cursor}
 use Rattle.lego_lexer.specs.declared.tokens.Next.{Next}
 use Rattle.lego_lexer.proofs.SliceLemmas.{slice_length}

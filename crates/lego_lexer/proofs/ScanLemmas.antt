@@ -1,18 +1,17 @@
 -- Tokens in ranges of bytes.
-use Rattle.std.proofs.Common.{◌≡◌, ◌≢◌, ℕ, ◌+◌, ◌-◌, ◌*◌, ◌<◌, ◌≤◌, zero, suc, min, Bool, true, false, ◌&&◌, nat_eq, nat_lt, List, [], ◌∷◌, ◌++◌, length, get_or, take, drop, fold, Option, Some, None, refl, sym, ap, ◌∙◌, subst, arith, drop-cons, length-drop}
+use Rattle.std.proofs.Common.{◌≡◌, ℕ, ◌+◌, ◌<◌, ◌≤◌, zero, suc, Bool, true, false, ◌&&◌, nat_eq, nat_lt, List, [], ◌∷◌, ◌++◌, length, get_or, drop, Some, None, refl, sym, ap, ◌∙◌, subst, arith, drop-cons}
 use Rattle.std.specs.Prelude.{slice_range}
 use Rattle.std.specs.List.{list_all}
 use Rattle.std.proofs.lemmas.List.Folds.{drop_split}
 use Rattle.lego_base.specs.declared.place.Place.{Place}
 use Rattle.lego_lexer.specs.Bytes.{is_digit, begins_name, goes_on_in_name, begins_with, BeginsToken}
-use Rattle.lego_lexer.specs.Tokens.{Lexeme, Name, Number, OfWord, OfSymbol, word_text, words, symbol_text, symbols, written_as, has_name_form, has_number_form, number_value, token_of, IsLongest, NoToken, WithinLimits, FaultAt}
+use Rattle.lego_lexer.specs.Tokens.{Lexeme, Name, Number, OfSymbol, word_text, words, symbol_text, symbols, written_as, has_name_form, has_number_form, number_value, token_of, IsLongest, FaultAt}
 use Rattle.lego_lexer.specs.Scanned.{IsRunEnd}
-use Rattle.lego_lexer.specs.declared.token.Word.{Word}
 use Rattle.lego_lexer.specs.declared.token.Symbol.{Symbol}
 use Rattle.lego_lexer.specs.declared.token.Symbol.TheVariants.{Arrow}
 use Rattle.lego_lexer.specs.declared.token.LexFault.TheVariants.{BadByte, LongName, BigLevel}
-use Rattle.lego_lexer.proofs.SliceLemmas.{slice_none, slice_cons, slice_join, slice_length}
-use Rattle.lego_lexer.proofs.TokenLemmas.{Stops, name_longest, number_longest, symbol_longest, arrow_longest, no_token_here, name_token, word_token, number_token, and_true, has_symbol_form, name_no_symbol, digit_no_symbol, digit_no_name, test_equal}
+use Rattle.lego_lexer.proofs.SliceLemmas.{slice_none, slice_cons, slice_join}
+use Rattle.lego_lexer.proofs.TokenLemmas.{Stops, name_longest, number_longest, symbol_longest, arrow_longest, no_token_here, name_token, number_token, and_true, has_symbol_form, name_no_symbol, digit_no_symbol, digit_no_name, test_equal}
 use Rattle.lego_lexer.proofs.CommentLemmas.{begins_two, begins_at}
 use Rattle.std.proofs.lemmas.Bool.Decides.{nat_tests}
 use mathlib.Core.Bool.{true≢false}

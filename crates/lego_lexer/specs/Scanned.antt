@@ -4,7 +4,7 @@ use Rattle.std.specs.List.{list_all}
 use Rattle.lego_lexer.specs.Bytes.{Gap, BeginsToken, IsOpenComment}
 use Rattle.lego_lexer.specs.Commands.{Unbroken}
 use Rattle.lego_base.specs.Place.{behind}
-use Rattle.lego_lexer.specs.Tokens.{IsLongest, WithinLimits, lexeme_of, Point, Reads, Placed, FaultAt, placed}
+use Rattle.lego_lexer.specs.Tokens.{IsLongest, WithinLimits, lexeme_of, Point, Reads, FaultAt, placed}
 use Rattle.lego_lexer.specs.declared.token.LexFault.{LexFault}
 use Rattle.lego_lexer.specs.declared.tokens.Cursor.{Cursor}
 use Rattle.lego_lexer.specs.declared.tokens.Next.{Next}

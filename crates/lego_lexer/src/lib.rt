@@ -3,6 +3,7 @@
 
 mod commands;
 mod comment;
+mod laws;
 mod scan;
 mod spelling;
 mod token;
@@ -11,3 +12,6 @@ mod tokens;
 pub use commands::cut;
 pub use token::{Cut, LexFault, Symbol, Token, TokenKind, Word};
 pub use tokens::lex;
+
+#[cfg(test)]
+mod tests;

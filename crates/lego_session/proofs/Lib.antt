@@ -2,6 +2,8 @@ pub mod ReadingLemmas
 pub mod TextLemmas
 pub mod BindingLemmas
 pub mod BindAllLemmas
+pub mod StepLemmas
+pub mod CutLemmas
 pub mod TokenLemmas
 pub mod KnownLemmas
 pub mod DenotesPrintable
@@ -12,3 +14,5 @@ pub mod DenotesEntries
 pub mod DenotesLemmas
 pub mod PrintableLemmas
 pub mod PlacesLemmas
+pub mod OutcomeLemmas
+pub mod RunLemmas

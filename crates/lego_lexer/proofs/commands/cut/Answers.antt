@@ -1,4 +1,4 @@
-use Rattle.std.proofs.Common.{drop, sym, subst, arith}
+use Rattle.std.proofs.Common.{sym, subst, arith}
 use Rattle.std.specs.Prelude.{slice_range}
 use Rattle.std.proofs.lemmas.List.Folds.{drop_split}
 use Rattle.lego_lexer.specs.Commands.{IsCut}

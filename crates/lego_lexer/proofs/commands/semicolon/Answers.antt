@@ -1,4 +1,4 @@
-use Rattle.std.proofs.Common.{ℕ, ◌≡◌, ◌+◌, ◌<◌, ◌≤◌, sym, ◌∙◌, arith}
+use Rattle.std.proofs.Common.{◌+◌, ◌<◌, sym, ◌∙◌, arith}
 use Rattle.lego_lexer.proofs.CommandLemmas.{unbroken_past_byte, unbroken_past_comment, unbroken_so_far, unbroken_to_end, semicolon_there}
 use Rattle.lego_lexer.proofs.CommentLemmas.{open_there}
 use Rattle.lego_lexer.proofs.commands.semicolon.Goals as goal

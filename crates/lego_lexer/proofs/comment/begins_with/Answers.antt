@@ -1,5 +1,5 @@
 use Rattle.std.proofs.Common.{drop, sym, arith, length-drop}
-use Rattle.lego_lexer.proofs.CommentLemmas.{short_begins_none, begins_at}
+use Rattle.lego_lexer.proofs.CommentLemmas.{short_begins_none}
 use Rattle.lego_lexer.proofs.comment.begins_with.Goals as goal
 
 pub returns-then-bytes-at-lt2 : goal.returns-then-bytes-at-lt2

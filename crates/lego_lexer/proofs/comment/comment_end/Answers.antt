@@ -1,5 +1,4 @@
-use Rattle.std.proofs.Common.{◌≡◌, ◌+◌, ◌-◌, ◌<◌, ◌≤◌, length, drop, Some, None, sym, ap, ◌∙◌, arith, length-drop}
-use Rattle.lego_lexer.specs.Bytes.{behind_comments}
+use Rattle.std.proofs.Common.{◌≡◌, ◌-◌, drop, sym, ◌∙◌, arith, length-drop}
 use Rattle.lego_lexer.proofs.CommentLemmas.{opened_at, closed_at, passed_at, too_short}
 use Rattle.lego_lexer.proofs.comment.comment_end.Goals as goal
 

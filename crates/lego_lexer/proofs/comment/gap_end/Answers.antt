@@ -1,5 +1,4 @@
-use Rattle.std.proofs.Common.{ℕ, ◌≡◌, ◌+◌, ◌<◌, ◌≤◌, length, get_or, drop, Some, None, sym, ap, ◌∙◌, arith}
-use Rattle.lego_lexer.specs.Bytes.{is_blank, begins_comment}
+use Rattle.std.proofs.Common.{◌+◌, ◌<◌, sym, ◌∙◌, arith}
 use Rattle.lego_lexer.proofs.GapLemmas.{gap_past_blank, gap_past_comment, gap_so_far, gap_to_end, token_there}
 use Rattle.lego_lexer.proofs.CommentLemmas.{open_there}
 use Rattle.lego_lexer.proofs.comment.gap_end.Goals as goal

@@ -1,4 +1,4 @@
-use Rattle.std.proofs.Common.{◌≤◌, ◌<◌, length, sym, ◌∙◌, arith}
+use Rattle.std.proofs.Common.{◌<◌, length, sym, arith}
 use Rattle.std.specs.Prelude.{slice_range}
 use Rattle.lego_lexer.specs.Tokens.{Name, OfWord}
 use Rattle.lego_lexer.proofs.SliceLemmas.{slice_length}

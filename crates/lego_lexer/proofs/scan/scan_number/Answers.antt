@@ -1,6 +1,6 @@
-use Rattle.std.proofs.Common.{◌≡◌, ◌<◌, ◌≤◌, sym, subst, arith}
+use Rattle.std.proofs.Common.{◌≡◌, ◌<◌, arith}
 use Rattle.std.specs.Prelude.{slice_range}
-use Rattle.lego_lexer.specs.Tokens.{Number, IsLongest, number_value}
+use Rattle.lego_lexer.specs.Tokens.{number_value}
 use Rattle.lego_lexer.proofs.ScanLemmas.{number_some, number_there, big_level_there}
 use Rattle.lego_lexer.proofs.scan.scan_number.Goals as goal
 

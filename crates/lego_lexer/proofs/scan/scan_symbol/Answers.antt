@@ -1,4 +1,4 @@
-use Rattle.std.proofs.Common.{◌+◌, ◌<◌, ◌≤◌, length, sym, ◌∙◌, arith}
+use Rattle.std.proofs.Common.{◌+◌, ◌<◌, length, sym, ◌∙◌, arith}
 use Rattle.lego_lexer.proofs.ScanLemmas.{arrow_within, arrow_there, symbol_there, bad_byte_there}
 use Rattle.lego_lexer.proofs.scan.scan_symbol.Goals as goal
 

@@ -1,7 +1,6 @@
-use Rattle.std.proofs.Common.{ℕ, List, ◌≡◌, ◌∙◌, ap, arith}
+use Rattle.std.proofs.Common.{arith}
 use Rattle.std.specs.Prelude.{slice_range}
 use Rattle.std.proofs.lemmas.List.{take_more}
-use Rattle.lego_base.specs.Place.{behind}
 use Rattle.lego_base.proofs.PlaceLemmas.{behind-append, past-newline, past-other}
 use Rattle.lego_lexer.proofs.tokens.Cursor.advance.Goals as goal
 use Rattle.lego_lexer.proofs.tokens.Cursor.advance.Goals.{then-byte-eq10, else-byte-eq10}
