@@ -13,5 +13,6 @@ pub mod DenotesTypes
 pub mod DenotesEntries
 pub mod DenotesLemmas
 pub mod PrintableLemmas
+pub mod PlacesLemmas
 pub mod OutcomeLemmas
 pub mod RunLemmas
