@@ -1,4 +1,6 @@
 //! Each public call once, and each refusal of a context.
+ghost use Rattle.lego_kernel.specs.Simple.{IsSimple};
+
 use super::*;
 use lego_base::Place;
 use lego_term::{Mark, Term, identical, konst, prop};
