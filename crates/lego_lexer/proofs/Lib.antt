@@ -6,3 +6,9 @@ pub mod CommandLemmas
 pub mod TokenLemmas
 pub mod ScanLemmas
 pub mod LexLemmas
+pub mod UniqueGaps
+pub mod UniqueTokens
+pub mod UniqueCuts
+pub mod Scripts
+pub mod Ranges
+mod Sanity

@@ -3,6 +3,7 @@
 
 mod commands;
 mod comment;
+mod laws;
 mod scan;
 mod spelling;
 mod token;

@@ -50,33 +50,29 @@ fn commands_end_at_the_next_semicolon_outside_comments(rt: HostRuntime) {
     }
 }
 
-/// `a`, so many blanks, and `;`.
-fn padded(alloc: Global, blanks: usize) -> Result<Vec<u8>, AllocError> {
+/// `[A:Prop(*`, so many letters, and `*)];`.
+fn padded(alloc: Global, letters: usize) -> Result<Vec<u8>, AllocError> {
     let mut bytes = Vec::new(alloc);
-    bytes.push(b'a')?;
-    bytes.resize(blanks.saturating_add(1), b' ')?;
-    bytes.push(b';')?;
+    bytes.extend_from_slice(b"[A:Prop(*")?;
+    bytes.resize(letters.saturating_add(9), b'x')?;
+    bytes.extend_from_slice(b"*)];")?;
     Ok(bytes)
 }
 
 #[test]
 fn a_command_of_more_than_65_536_bytes_is_long(rt: HostRuntime) -> Result<(), Fail> {
-    let fits = padded(rt.alloc(), 65_534)?;
-    assert_eq!(rt;
-        cut(&fits, 0),
-        Cut::Command {
-            start: 0,
-            end: 65_536
-        }
-    );
-    let long = padded(rt.alloc(), 65_535)?;
-    assert_eq!(rt;
-        cut(&long, 0),
-        Cut::LongCommand {
-            start: 0,
-            end: 65_537
-        }
-    );
+    let fits = padded(rt.alloc(), 65_523)?;
+    let command = Cut::Command {
+        start: 0,
+        end: 65_536,
+    };
+    assert_eq!(rt; cut(&fits, 0), command);
+    let long = padded(rt.alloc(), 65_524)?;
+    let command = Cut::LongCommand {
+        start: 0,
+        end: 65_537,
+    };
+    assert_eq!(rt; cut(&long, 0), command);
     Ok(())
 }
 
@@ -200,7 +196,7 @@ fn places_count_lines_and_columns_in_comments_too(rt: HostRuntime) -> Result<(),
 
 #[test]
 fn the_first_fault_refuses(rt: HostRuntime) -> Result<(), Fail> {
-    let cases: [(&[u8], LexFault); 10] = [
+    let cases: [(&[u8], LexFault); 12] = [
         (
             b"a - b",
             LexFault::BadByte {
@@ -228,6 +224,17 @@ fn the_first_fault_refuses(rt: HostRuntime) -> Result<(), Fail> {
                 place: place(2, 1),
                 byte: 0,
             },
+        ),
+        (
+            b"[A@Prop];",
+            LexFault::BadByte {
+                place: place(1, 3),
+                byte: b'@',
+            },
+        ),
+        (
+            b"[x:Type(1000001)];",
+            LexFault::BigLevel { place: place(1, 9) },
         ),
         (b"a (* b", LexFault::OpenComment { place: place(1, 3) }),
         (b"(*)", LexFault::OpenComment { place: place(1, 1) }),

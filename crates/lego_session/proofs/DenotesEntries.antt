@@ -14,7 +14,7 @@ use Rattle.lego_kernel.specs.declared.entry.Entry.{Entry as Item}
 use Rattle.lego_session.specs.Commands.{grammar_tokens}
 use Rattle.lego_session.specs.Denotes.{Declares}
 use Rattle.lego_session.specs.Names.{IsHeldName}
-use Rattle.lego_session.specs.Printable.{IsPlain}
+use Rattle.lego_session.proofs.DenotesPrintable.{IsPlain}
 use Rattle.lego_session.proofs.DenotesTexts.{IsQuiet, name_text_is, name_begins, begins_there, byte_unbroken}
 use Rattle.lego_session.proofs.DenotesTypes.{here, after, lex_one, same_join, stops_at, name_lexeme, IsTypeRead}
 use Rattle.lego_session.proofs.TokenLemmas.{name_form}

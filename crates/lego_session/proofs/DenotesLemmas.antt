@@ -18,7 +18,7 @@ use Rattle.lego_kernel.specs.Simple.{IsSimple}
 use Rattle.lego_kernel.specs.declared.entry.Entry.{Entry as Item}
 use Rattle.lego_session.specs.Denotes.{ReadsAs, DeclareAll, Denotes}
 use Rattle.lego_session.specs.Names.{IsHeldName, AreKnown}
-use Rattle.lego_session.specs.Printable.{IsPlain, IsPrintable}
+use Rattle.lego_session.proofs.DenotesPrintable.{IsPlain, IsPrintable}
 use Rattle.lego_session.specs.Texts.{entry_command, type_text, development_text}
 use Rattle.lego_session.proofs.DenotesEntries.{body_of, body_unbroken, entry_declared}
 use Rattle.lego_session.proofs.DenotesNames.{constant_is, printed_name}

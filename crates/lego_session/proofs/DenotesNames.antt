@@ -12,7 +12,7 @@ use Rattle.lego_kernel.specs.Contexts.{AreSimple}
 use Rattle.lego_kernel.specs.Entries.{is_named, position_of}
 use Rattle.lego_kernel.specs.declared.entry.Entry.{Entry as Item}
 use Rattle.lego_session.specs.Names.{name_text, IsHeldName, AreKnown}
-use Rattle.lego_session.specs.Printable.{NamesDiffer}
+use Rattle.lego_session.proofs.DenotesPrintable.{NamesDiffer}
 use Rattle.lego_session.specs.Texts.{entry_name, constant_text}
 
 pub all_at : {X : Type 0} (P : X → Type 0) (xs : List X) (k : ℕ) (x : X) → slice_get xs k ≡ Some x → All P xs → P x
@@ -28,7 +28,7 @@ front_at [] ys k x h = absurd (cc)
 front_at (y ∷ xs) ys zero x h = h
 front_at (y ∷ xs) ys (suc k) x h = front_at xs ys k x h
 
-eq_self : (n : ℕ) → nat_eq n n ≡ true
+pub eq_self : (n : ℕ) → nat_eq n n ≡ true
 eq_self n = grind (arith, nat_tests)
 
 eq_above : (m n : ℕ) → m < n → nat_eq m n ≡ false
@@ -37,7 +37,7 @@ eq_above m n l = grind (arith, nat_tests)
 eq_is : (m n : ℕ) → nat_eq m n ≡ true → m ≡ n
 eq_is m n h = grind (arith, nat_tests)
 
-lt_is : (m n : ℕ) → m < n → nat_lt m n ≡ true
+pub lt_is : (m n : ℕ) → m < n → nat_lt m n ≡ true
 lt_is m n l = grind (arith, nat_tests)
 
 number_at : (n k : ℕ) (es : List Item) (e : Item) → AreSimple n es → slice_get es k ≡ Some e → e.number ≡ n + k

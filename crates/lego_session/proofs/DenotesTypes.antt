@@ -16,7 +16,7 @@ use Rattle.lego_grammar.specs.declared.surface.Kind.TheVariants as Kind
 use Rattle.lego_kernel.specs.Simple.{IsSimple}
 use Rattle.lego_kernel.specs.declared.entry.Entry.{Entry as Item}
 use Rattle.lego_session.specs.Commands.{grammar_tokens}
-use Rattle.lego_session.specs.Printable.{HasArrows}
+use Rattle.lego_session.proofs.DenotesPrintable.{HasArrows}
 use Rattle.lego_session.specs.Reading.{ReadsType, arrow_binder}
 use Rattle.lego_session.specs.Texts.{constant_text, type_text}
 use Rattle.lego_session.proofs.DenotesNames.{ConstantIs}

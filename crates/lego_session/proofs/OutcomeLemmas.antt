@@ -18,13 +18,13 @@ use Rattle.lego_session.specs.Headline.{Headline}
 use Rattle.lego_session.specs.Names.{AreKnown}
 use Rattle.lego_session.specs.Outcomes.{Ended, AnswersAll, AnswersFront, Broken, Overlong, Stopped, Outcome, IsAcceptable}
 use Rattle.lego_session.specs.Progress.{AreAnswered, Halted, Finished}
-use Rattle.lego_session.specs.Printable.{IsPrintable}
+use Rattle.lego_session.proofs.DenotesPrintable.{IsPrintable}
 use Rattle.lego_session.specs.Runs.{Run, Runs, first_place, answers_text, closing_text, output_of, refuses, is_ending_refused}
 use Rattle.lego_session.specs.Steps.{Answer}
 use Rattle.lego_session.specs.declared.status.Status.{Status}
 use Rattle.lego_session.specs.declared.status.Status.TheVariants.{Accepted, Refused, Usage, ReadFault, WriteFault, Memory, OpenProof, TooLong}
 use Rattle.lego_session.proofs.DenotesLemmas.{development_denotes}
-use Rattle.lego_session.proofs.DenotesPrintable.{answered_printable}
+use Rattle.lego_session.proofs.PrintableLemmas.{answered_printable}
 
 -- the slice up to a length or a limit is the front up to that limit
 pub up_to : (n limit : ℕ) (slice items : List ℕ) → slice ≡ items → n ≡ min (length slice) limit → take n slice ≡ take limit items

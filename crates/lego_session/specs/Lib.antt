@@ -11,4 +11,3 @@ pub mod Headline
 pub mod Statuses
 pub mod Outcomes
 pub mod Progress
-pub mod Printable

@@ -56,4 +56,4 @@ refusal_text names es place cause = codes "refused " ++ place_text place ++ code
 -- the refusal has the place, the cause and their text; without memory it says so, and has no text
 abbrev pub IsRefusedBy : Names → List Item → Place → Cause → Place → Cause → List ℕ → Type 0
 IsRefusedBy names es place cause p c text =
-    ((c ≡ Memory) × (text ≡ [])) ⊎ ((p ≡ place) × (c ≡ cause) × (text ≡ refusal_text names es place cause))
+    ((c ≡ Memory) × (text ≡ [])) ⊎ ((cause ≡ Memory → ⊥) × (p ≡ place) × (c ≡ cause) × (text ≡ refusal_text names es place cause))

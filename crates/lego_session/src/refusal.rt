@@ -77,6 +77,9 @@ impl Refusal {
     ) -> Refusal
         ensures { IsRefusedBy names.now context.now place cause result.place result.cause result.text }
     {
+        if let Cause::Memory = cause {
+            return Refusal::memory(alloc, place);
+        }
         match refusal_text(alloc, names, context, place, &cause) {
             Ok(text) => Refusal {
                 place,
