@@ -14,15 +14,14 @@ use Rattle.lego_laws.specs.Derivations.{Derives, d_univ, d_cum}
 use Rattle.lego_laws.specs.Places.{Want, Nothing, AType, AFunction, APair, Stated, Fulfils, WantsHead}
 use Rattle.lego_laws.specs.Ranges.{levels_bound, Agree, Context, Solution, FitsBetween}
 use Rattle.lego_laws.specs.Exclusion.{Meets, Excluded, HeadExcludes, MismatchExcludes, ArgumentExcludes, NoSolutionExcludes, PartsExclude, BodiesExclude, NoTypeExcludes}
-use Rattle.lego_laws.proofs.Below.{pi_inverts}
 use Rattle.lego_laws.proofs.Head.{head_forms_compare}
 use Rattle.lego_laws.proofs.Valued.{closed_valued, head_form_converts, head_form_valued}
 use Rattle.lego_laws.proofs.Inversion.{generation}
 use Rattle.lego_laws.proofs.Bounding.{bounded_more, bound_of}
 use Rattle.lego_laws.proofs.AtZero.{below_at_zero}
-use Rattle.lego_laws.proofs.Agreeing.{narrower, at_agree, satisfies_agree, bodies_agree, locals_agree, bounded_agree, agree_both}
+use Rattle.lego_laws.proofs.Agreeing.{narrower, at_agree, satisfies_agree, bodies_agree, locals_agree}
 use Rattle.lego_laws.proofs.Satisfying.{satisfies_append}
-use Rattle.lego_laws.proofs.Solving.{below_with, head_within}
+use Rattle.lego_laws.proofs.Solving.{below_with}
 use Rattle.lego_laws.proofs.FitsApp.{at-instantiate, meets}
 
 -- the parts of the head form against a head form above the type

@@ -16,8 +16,8 @@ ghost use Rattle.lego_laws.specs.Fitting.{Fits};
 pub use comparison::{
     comparison_is_exact, difference_excludes_below, difference_excludes_conversion,
     facing_parts_are_related, fewer_steps_are_counted, head_steps_are_counted,
-    long_walks_are_costly, parts_are_reached, parts_end_together, parts_steps_are_counted,
-    walked_steps_are_counted,
+    head_steps_come_first, long_walks_are_costly, parts_are_reached, parts_end_together,
+    parts_steps_are_counted, walked_steps_are_counted,
 };
 pub use constants::{
     abstraction, closing_is_replacement, dropped_lists_are_valid, expansion,
