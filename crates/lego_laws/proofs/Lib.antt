@@ -55,3 +55,4 @@ pub mod Reaching
 pub mod Generalised
 pub mod Listed
 pub mod Abstracted
+pub mod ShapeExample

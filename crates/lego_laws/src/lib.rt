@@ -26,7 +26,7 @@ pub use constants::{
     translation,
 };
 pub use examples::{
-    domains_must_convert, four_head_steps, identity_is_typed, levels_dont_count_at_zero,
+    constant_has_its_shape, domains_must_convert, four_head_steps, identity_is_typed, levels_dont_count_at_zero,
     no_sort_is_in_itself, propositions_have_products, redex_contracts, rule_type_of_identity,
     universe_fits_exactly, universes_are_no_propositions,
 };
