@@ -56,3 +56,4 @@ pub mod Generalised
 pub mod Listed
 pub mod Abstracted
 pub mod ShapeExample
+pub mod RulePrincipal
