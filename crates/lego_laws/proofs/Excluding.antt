@@ -32,16 +32,16 @@ against {n₀} {c} {b} x f h run v w e q fq p =
     (head_forms_compare (bodies_at w b) (closed_valued (level_value w) b x.closed_bodies) (at w h) q (head_form_valued (level_value w) run) fq).0 (Below.chain back (below_with eb refl refl p))
 
 module _ (w : Assignment) (b : TermBodies) where
-  is_sort : (h : Core) (j : ℕ) → PartsBelow b (at w h) (Univ j) → Fulfils AType h
+  pub is_sort : (h : Core) (j : ℕ) → PartsBelow b (at w h) (Univ j) → Fulfils AType h
   is_sort Prop j p = Fulfils.a_prop
   is_sort (Univ l) j p = Fulfils.a_universe
   is_sort _ j p = elim p [ ]
 
-  is_product : (h : Core) (a r : Term) → PartsBelow b (at w h) (Pi tt a r) → Fulfils AFunction h
+  pub is_product : (h : Core) (a r : Term) → PartsBelow b (at w h) (Pi tt a r) → Fulfils AFunction h
   is_product (Pi x a r) _ _ p = Fulfils.a_function
   is_product _ a r p = elim p [ ]
 
-  is_sigma : (h : Core) (a r : Term) → PartsBelow b (at w h) (Sigma tt a r) → Fulfils APair h
+  pub is_sigma : (h : Core) (a r : Term) → PartsBelow b (at w h) (Sigma tt a r) → Fulfils APair h
   is_sigma (Sigma x a r) _ _ p = Fulfils.a_pair
   is_sigma _ a r p = elim p [ ]
 

@@ -57,3 +57,4 @@ pub mod Listed
 pub mod Abstracted
 pub mod ShapeExample
 pub mod RulePrincipal
+pub mod Shaped

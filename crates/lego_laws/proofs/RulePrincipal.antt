@@ -1,19 +1,18 @@
 -- Each type of a term is above its rule type, for some values of the fresh variables.
-use Rattle.std.proofs.Common.{◌≡◌, ℕ, zero, suc, ◌+◌, Option, Some, None, option_map, IsTrue, nat_eq, Bool, true, false, List, [], ◌∷◌, ◌++◌, map, slice_get, get_or, ◌⊎◌, inl, inr, refl, sym, ap, ap₂, ◌∙◌, arith, subst}
-use Rattle.std.proofs.lemmas.Bool.Decides.{nat_tests}
+use Rattle.std.proofs.Common.{◌≡◌, ℕ, zero, suc, ◌+◌, Option, Some, None, option_map, IsTrue, List, [], ◌∷◌, ◌++◌, map, get_or, inl, inr, refl, sym, ap, ◌∙◌, arith, subst}
 use mathlib.Core.Path.{fun_ext}
 use Rattle.std.specs.List.{list_any}
 use Rattle.lego_term.specs.declared.level.Level.{Level}
 use Rattle.lego_term.specs.Levels.{Assignment, level_value, variable_level}
-use Rattle.lego_term.specs.Trees.{Core, Term, Var, Const, Prop, Univ, Pi, Lam, App, Sigma, Pair, Fst, Snd, lift, instantiate, at, uses_level, levels_of, is_over}
+use Rattle.lego_term.specs.Trees.{Core, Term, Prop, Univ, Pi, Sigma, Fst, instantiate, at, uses_level, levels_of, is_over}
 use Rattle.lego_term.specs.Steps.{Converts}
 use Rattle.lego_term.specs.Below.{Below}
 use Rattle.lego_term.specs.Sequences.{HeadForm}
-use Rattle.lego_laws.specs.Parallel.{TermBodies, CoreBodies, AreClosed, bodies_at}
+use Rattle.lego_laws.specs.Parallel.{TermBodies, AreClosed, bodies_at}
 use Rattle.lego_laws.specs.Cumulativity.{ByForm}
 use Rattle.lego_laws.specs.HeadForms.{IsHeadForm, PartsBelow}
-use Rattle.lego_laws.specs.Derivations.{HasLocal, Derives, Generated}
-use Rattle.lego_laws.specs.Entries.{Entry, entry_of, core_bodies}
+use Rattle.lego_laws.specs.Derivations.{Derives, Generated}
+use Rattle.lego_laws.specs.Entries.{Entry, core_bodies}
 use Rattle.lego_laws.specs.RuleTypes.{RuleType}
 use Rattle.lego_laws.specs.Principal.{core_types}
 use Rattle.lego_laws.proofs.Below.{pi_inverts, sigma_inverts, under-below}

@@ -1,8 +1,8 @@
 -- A core has its shape: over `A : Prop` the constant A, where a type is wanted.
-use Rattle.std.proofs.Common.{◌≡◌, ℕ, IsTrue, false, List, [], ◌∷◌, Some, refl, ap, sym, subst}
+use Rattle.std.proofs.Common.{◌≡◌, ℕ, false, List, [], Some, refl, ap, sym, subst}
 use Rattle.std.proofs.lemmas.Bool.{false≢true}
 use Rattle.lego_term.specs.Trees.{Core, Const, Prop}
-use Rattle.lego_laws.specs.Entries.{Entry, entry_of, IsHeld}
+use Rattle.lego_laws.specs.Entries.{Entry, entry_of}
 use Rattle.lego_laws.specs.RuleTypes.{RuleType, IsFresh}
 use Rattle.lego_laws.specs.Places.{Want, AType, Stated, Site, Part, Task, Stands, Fulfils, IsFulfilled, HasShape}
 use Rattle.lego_laws.specs.Examples.{a_core, ConstantHasItsShape}
