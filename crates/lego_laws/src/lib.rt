@@ -19,8 +19,8 @@ pub use comparison::{
 pub use constants::{
     abstraction, closing_is_replacement, dropped_lists_are_valid, expansion,
     filled_lists_are_valid, judgements_expand, judgements_fill, judgements_over_reduced_lists,
-    reduced_lists_are_valid, reordered_judgements, reordering, replacement, strengthening,
-    translation,
+    prefixes_are_valid, reduced_lists_are_valid, reordered_judgements, reordering, replacement,
+    strengthening, translation,
 };
 pub use examples::{
     constant_has_its_shape, domains_must_convert, four_head_steps, identity_is_typed,
