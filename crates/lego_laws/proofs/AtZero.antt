@@ -11,7 +11,7 @@ use Rattle.lego_laws.proofs.Mapping.{converts-map, mapped_bodies}
 use Rattle.lego_laws.proofs.Valued.{map_twice}
 
 -- a term at fixed numbers, with all of them put to 0
-abbrev zeroed : Term → Term
+abbrev pub zeroed : Term → Term
 zeroed = map_tree (λ x. x) (λ x. x) (λ l. 0)
 
 below-zero : (b : TermBodies) {t u : Term} → Below b t u → Below (mapped_bodies (λ x. x) (λ x. x) (λ l. 0) b) (zeroed t) (zeroed u)
@@ -22,7 +22,7 @@ below-zero b (Below.pi p q) = Below.pi (converts-map (λ x. x) (λ x. x) (λ l. 
 below-zero b (Below.sigma p q) = Below.sigma (below-zero b p) (below-zero b q)
 below-zero b (Below.chain p q) = Below.chain (below-zero b p) (below-zero b q)
 
-zero_twice : (v : Assignment) (t : Core) → zeroed (at v t) ≡ at_zero t
+pub zero_twice : (v : Assignment) (t : Core) → zeroed (at v t) ≡ at_zero t
 zero_twice v t = map_twice (λ x. tt) (λ x. tt) (level_value v) (λ x. x) (λ x. x) (λ l. 0) t
 
 option_twice : (v : Assignment) (o : Option Core) → option_map zeroed (option_map (at v) o) ≡ option_map at_zero o
@@ -37,3 +37,7 @@ below_at_zero v b t u p =
     subst (λ z. Below z (at_zero t) (at_zero u)) (bodies_twice v b)
     (subst (λ z. Below (mapped_bodies (λ x. x) (λ x. x) (λ l. 0) (bodies_at v b)) z (at_zero u)) (zero_twice v t)
     (subst (λ z. Below (mapped_bodies (λ x. x) (λ x. x) (λ l. 0) (bodies_at v b)) (zeroed (at v t)) z) (zero_twice v u) (below-zero (bodies_at v b) p)))
+
+-- the same of terms at fixed numbers
+pub below_zeroed : (v : Assignment) (b : CoreBodies) {t u : Term} → Below (bodies_at v b) t u → Below (bodies_valued (λ l. 0) b) (zeroed t) (zeroed u)
+below_zeroed v b {t} {u} p = subst (λ z. Below z (zeroed t) (zeroed u)) (bodies_twice v b) (below-zero (bodies_at v b) p)

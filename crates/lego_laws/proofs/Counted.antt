@@ -6,7 +6,7 @@ use Rattle.lego_term.specs.Parts.{Branch, parts_of}
 use Rattle.lego_term.specs.Sequences.{head_step, normal_step, after, CostMoreThan}
 use Rattle.lego_laws.specs.Parallel.{CoreBodies}
 use Rattle.lego_laws.specs.HeadForms.{IsHeadForm}
-use Rattle.lego_laws.specs.Counting.{HasSteps, PartsHaveSteps, up_to_here, and_then, Walked, unvisited, on_the_way, through_parts, PartsWalked, stopped, next_part, HeadStepsAreCounted, PartsStepsAreCounted, FewerStepsAreCounted, WalkedStepsAreCounted, LongWalksAreCostly}
+use Rattle.lego_laws.specs.Counting.{HasSteps, PartsHaveSteps, up_to_here, and_then, Walked, unvisited, on_the_way, through_parts, PartsWalked, stopped, next_part, HeadStepsComeFirst, HeadStepsAreCounted, PartsStepsAreCounted, FewerStepsAreCounted, WalkedStepsAreCounted, LongWalksAreCostly}
 use Rattle.lego_laws.proofs.After.{next, after_one, after_add, fewer, after_inside, then_rest}
 use Rattle.lego_laws.proofs.NormalSteps.{head_first, IsFunction, IsOperand, in_function, in_argument, in_fst, in_snd}
 use Rattle.lego_laws.proofs.Stuck.{app_stuck, fst_stuck, snd_stuck}
@@ -121,6 +121,10 @@ module _ (b : CoreBodies) where
       split le =
           let r = fewer (normal_step b) j (suc n - i) u (omega arith) k in
           (i, suc n - i, omega arith, h.0, r.0, h.1, r.1)
+
+pub head_steps_come_first : HeadStepsComeFirst
+head_steps_come_first b t h u i n e =
+    (λ r. after_add (normal_step b) i n t h u (head_after b i t h e) r, λ r. record { reaches = after_add (normal_step b) i n t h u (head_after b i t h e) r.reaches; last = r.last })
 
 pub head_steps_are_counted : HeadStepsAreCounted
 head_steps_are_counted b t u i n = head_counted b i n t u

@@ -14,15 +14,14 @@ use Rattle.lego_laws.specs.Derivations.{Derives, d_univ, d_cum}
 use Rattle.lego_laws.specs.Places.{Want, Nothing, AType, AFunction, APair, Stated, Fulfils, WantsHead}
 use Rattle.lego_laws.specs.Ranges.{levels_bound, Agree, Context, Solution, FitsBetween}
 use Rattle.lego_laws.specs.Exclusion.{Meets, Excluded, HeadExcludes, MismatchExcludes, ArgumentExcludes, NoSolutionExcludes, PartsExclude, BodiesExclude, NoTypeExcludes}
-use Rattle.lego_laws.proofs.Below.{pi_inverts}
 use Rattle.lego_laws.proofs.Head.{head_forms_compare}
 use Rattle.lego_laws.proofs.Valued.{closed_valued, head_form_converts, head_form_valued}
 use Rattle.lego_laws.proofs.Inversion.{generation}
 use Rattle.lego_laws.proofs.Bounding.{bounded_more, bound_of}
 use Rattle.lego_laws.proofs.AtZero.{below_at_zero}
-use Rattle.lego_laws.proofs.Agreeing.{narrower, at_agree, satisfies_agree, bodies_agree, locals_agree, bounded_agree, agree_both}
+use Rattle.lego_laws.proofs.Agreeing.{narrower, at_agree, satisfies_agree, bodies_agree, locals_agree}
 use Rattle.lego_laws.proofs.Satisfying.{satisfies_append}
-use Rattle.lego_laws.proofs.Solving.{below_with, head_within}
+use Rattle.lego_laws.proofs.Solving.{below_with}
 use Rattle.lego_laws.proofs.FitsApp.{at-instantiate, meets}
 
 -- the parts of the head form against a head form above the type
@@ -33,16 +32,16 @@ against {n₀} {c} {b} x f h run v w e q fq p =
     (head_forms_compare (bodies_at w b) (closed_valued (level_value w) b x.closed_bodies) (at w h) q (head_form_valued (level_value w) run) fq).0 (Below.chain back (below_with eb refl refl p))
 
 module _ (w : Assignment) (b : TermBodies) where
-  is_sort : (h : Core) (j : ℕ) → PartsBelow b (at w h) (Univ j) → Fulfils AType h
+  pub is_sort : (h : Core) (j : ℕ) → PartsBelow b (at w h) (Univ j) → Fulfils AType h
   is_sort Prop j p = Fulfils.a_prop
   is_sort (Univ l) j p = Fulfils.a_universe
   is_sort _ j p = elim p [ ]
 
-  is_product : (h : Core) (a r : Term) → PartsBelow b (at w h) (Pi tt a r) → Fulfils AFunction h
+  pub is_product : (h : Core) (a r : Term) → PartsBelow b (at w h) (Pi tt a r) → Fulfils AFunction h
   is_product (Pi x a r) _ _ p = Fulfils.a_function
   is_product _ a r p = elim p [ ]
 
-  is_sigma : (h : Core) (a r : Term) → PartsBelow b (at w h) (Sigma tt a r) → Fulfils APair h
+  pub is_sigma : (h : Core) (a r : Term) → PartsBelow b (at w h) (Sigma tt a r) → Fulfils APair h
   is_sigma (Sigma x a r) _ _ p = Fulfils.a_pair
   is_sigma _ a r p = elim p [ ]
 

@@ -1,5 +1,5 @@
 -- Translation and expansion, for the thirteen rules.
-use Rattle.std.proofs.Common.{◌≡◌, ℕ, Option, Some, None, IfSome, IfNone, List, [], ◌∷◌, refl, subst}
+use Rattle.std.proofs.Common.{◌≡◌, ℕ, Option, Some, None, IfSome, IfNone, List, [], ◌∷◌, ◌++◌, refl, subst}
 use Rattle.std.specs.List.{AllByRecursion}
 use Rattle.lego_term.specs.Trees.{Term, Univ, replace_constants}
 use Rattle.lego_term.specs.Steps.{Converts}
@@ -10,7 +10,7 @@ use Rattle.lego_laws.specs.Valid.{AreValid, BodiesFit}
 use Rattle.lego_laws.specs.Derivations.{types_of, Derives}
 use Rattle.lego_laws.specs.Translation.{standing, StandsFor, Translation}
 use Rattle.lego_laws.specs.Expansion.{expansions, expand, expand_all, HasPurely, IsPureType, Expansion, JudgementsExpand}
-use Rattle.lego_laws.specs.Orders.{fillings, fill_all, FilledListsAreValid, JudgementsFill}
+use Rattle.lego_laws.specs.Orders.{fillings, fill_all, FilledListsAreValid, JudgementsFill, PrefixesAreValid}
 use Rattle.lego_laws.proofs.Rules.{ValidTypes, known, derived, judged, valid_types, valid_locals, type_from}
 use Rattle.lego_laws.proofs.Entries.{HasItsType, ValidBodies, valid_constants, types_closed, bodies_closed, body_from}
 use Rattle.lego_laws.proofs.TypingLaws.{bodies_typed, constants_valid}
@@ -106,3 +106,7 @@ judgements_fill chosen es x g m a d =
     judged (t-derives (fillings chosen es) (types_of es) (bodies_of es) (types_of (fill_all chosen es)) (bodies_of (fill_all chosen es)) (types_closed v) (bodies_closed v) (types_closed v') (bodies_closed v') z.translates h.0)
     (valid_locals (valid_types (fill_all chosen es) z.types)
     (t-locals (fillings chosen es) (types_of es) (bodies_of es) (types_of (fill_all chosen es)) (bodies_of (fill_all chosen es)) (types_closed v) (bodies_closed v) (types_closed v') (bodies_closed v') z.translates h.1.locals))
+
+pub prefixes_are_valid : PrefixesAreValid
+prefixes_are_valid [] es x = x
+prefixes_are_valid (e ∷ later) es x = prefixes_are_valid later es (tail_valid e (later ++ es) x)

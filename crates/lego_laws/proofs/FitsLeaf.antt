@@ -38,7 +38,7 @@ pub local_at_values : (v : Assignment) {g : List Core} {i : ℕ} {a : Core} → 
 local_at_values v (first {a = a}) = rw (at-lift v 0 1 a) HasLocal.here
 local_at_values v (later {t = t} l) = rw (at-lift v 0 1 t) (HasLocal.there (local_at_values v l))
 
-one_local : {g : List Term} {i : ℕ} {a a' : Term} → HasLocal g i a → HasLocal g i a' → a ≡ a'
+pub one_local : {g : List Term} {i : ℕ} {a a' : Term} → HasLocal g i a → HasLocal g i a' → a ≡ a'
 one_local HasLocal.here HasLocal.here = refl
 one_local (HasLocal.there l) (HasLocal.there k) = ap (lift 0 1) (one_local l k)
 

@@ -16,7 +16,7 @@ use Rattle.lego_laws.proofs.FitsBinder.{lam_fits, sigma_fits, pi_prop_fits, pi_f
 use Rattle.lego_laws.proofs.FitsApp.{app_fits, fst_fits, snd_fits}
 use Rattle.lego_laws.proofs.FitsPair.{wanted_fits, pair_fits}
 
-core_local_at : (g : List Core) (i : ℕ) (a : Core) → slice_get g i ≡ Some a → HasCoreLocal g i (lift 0 (suc i) a)
+pub core_local_at : (g : List Core) (i : ℕ) (a : Core) → slice_get g i ≡ Some a → HasCoreLocal g i (lift 0 (suc i) a)
 core_local_at [] i a e = cc
 core_local_at (t ∷ g) zero a e = let is : t ≡ a = cc e in subst (λ z. HasCoreLocal (t ∷ g) zero (lift 0 1 z)) is first
 core_local_at (t ∷ g) (suc i) a e = subst (λ z. HasCoreLocal (t ∷ g) (suc i) z) (lift_more (suc i) a) (later (core_local_at g i a e))

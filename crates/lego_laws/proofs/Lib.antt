@@ -55,3 +55,6 @@ pub mod Reaching
 pub mod Generalised
 pub mod Listed
 pub mod Abstracted
+pub mod ShapeExample
+pub mod RulePrincipal
+pub mod Shaped

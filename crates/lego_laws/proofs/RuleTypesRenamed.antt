@@ -131,7 +131,7 @@ held_by : (es : List Entry) (e y : Entry) (u : ℕ) (o : Bool) (m : Option Entry
 held_by es e y u true m q rest h = let is : y ≡ e = cc in or_left (entry_uses u e) (list_any (entry_uses u) es) (subst (λ z. IsTrue (entry_uses u z)) is h)
 held_by es e y u false m q rest h = or_right (entry_uses u e) (list_any (entry_uses u) es) (rest q)
 
-entry_held : (es : List Entry) (k : ℕ) (y : Entry) → entry_of es k ≡ Some y → (u : ℕ) → IsTrue (entry_uses u y) → IsTrue (list_any (entry_uses u) es)
+pub entry_held : (es : List Entry) (k : ℕ) (y : Entry) → entry_of es k ≡ Some y → (u : ℕ) → IsTrue (entry_uses u y) → IsTrue (list_any (entry_uses u) es)
 entry_held [] k y q u h = cc
 entry_held (e ∷ es) k y q u h = held_by es e y u (nat_eq e.number k) (entry_of es k) q (λ p. entry_held es k y p u h) h
 
@@ -140,7 +140,7 @@ local_held [] i a q u h = cc
 local_held (t ∷ g) zero a q u h = let is : a ≡ t = cc q in or_left (uses_level u t) (list_any (uses_level u) g) (subst (λ z. IsTrue (uses_level u z)) is h)
 local_held (t ∷ g) (suc i) a q u h = or_right (uses_level u t) (list_any (uses_level u) g) (local_held g i a q u h)
 
-body_held : (u : ℕ) (o : Option Core) (m : Core) → o ≡ Some m → IsTrue (uses_level u m) → IsTrue (unwrap_or (option_map (uses_level u) o) false)
+pub body_held : (u : ℕ) (o : Option Core) (m : Core) → o ≡ Some m → IsTrue (uses_level u m) → IsTrue (unwrap_or (option_map (uses_level u) o) false)
 body_held u None m q h = cc
 body_held u (Some t) m q h = let is : m ≡ t = cc in subst (λ z. IsTrue (uses_level u z)) is h
 
@@ -148,7 +148,7 @@ body_renamed : (f : ℕ → ℕ) (o : Option Core) → ((m : Core) → o ≡ Som
 body_renamed f None h = refl
 body_renamed f (Some m) h = ap Some (h m refl)
 
-entry_body : (f : ℕ → ℕ) (o : Option Entry) (m : Core) → option_and_then (λ e. e.body) o ≡ Some m → (y : Entry) × (o ≡ Some y) × (y.body ≡ Some m)
+pub entry_body : (f : ℕ → ℕ) (o : Option Entry) (m : Core) → option_and_then (λ e. e.body) o ≡ Some m → (y : Entry) × (o ≡ Some y) × (y.body ≡ Some m)
 entry_body f None m q = cc
 entry_body f (Some y) m q = (y, refl, q)
 

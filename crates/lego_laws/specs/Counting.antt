@@ -35,6 +35,13 @@ abbrev pub HeadStepsAreCounted : Type 0
 HeadStepsAreCounted =
     (b : CoreBodies) (t u : Core) (i n : ℕ) → after (head_step b) i t ≡ Some u → HasSteps b u n → HasSteps b t (i + n)
 
+-- what the normalisation sequence of a term on the head sequence reaches, the whole sequence reaches; where it ends, it ends
+abbrev pub HeadStepsComeFirst : Type 0
+HeadStepsComeFirst =
+    (b : CoreBodies) (t h u : Core) (i n : ℕ) → after (head_step b) i t ≡ Some h
+    → (after (normal_step b) n h ≡ Some u → after (normal_step b) (i + n) t ≡ Some u)
+    × (Ends (normal_step b) h n u → Ends (normal_step b) t (i + n) u)
+
 -- the steps of a head form's parts are steps of the head form
 abbrev pub PartsStepsAreCounted : Type 0
 PartsStepsAreCounted = (b : CoreBodies) (t : Core) (n : ℕ) → IsHeadForm b t → PartsHaveSteps b (parts_of t) n → HasSteps b t n

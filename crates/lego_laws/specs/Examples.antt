@@ -11,7 +11,7 @@ use Rattle.lego_laws.specs.Parallel.{TermBodies}
 use Rattle.lego_laws.specs.Entries.{Entry, Constant}
 use Rattle.lego_laws.specs.Judgement.{Has}
 use Rattle.lego_laws.specs.RuleTypes.{RuleType}
-use Rattle.lego_laws.specs.Places.{BelowAtZero}
+use Rattle.lego_laws.specs.Places.{BelowAtZero, Task, AType, HasShape}
 use Rattle.lego_laws.specs.Fitting.{Fits}
 use Rattle.lego_laws.specs.Ranges.{raised_level}
 
@@ -81,3 +81,7 @@ UniverseFitsExactly =
     Fits [] [] (Univ (variable_level 0)) (Univ (variable_level 1)) (one_more ∷ [])
     × (Fits [] [] (Univ (variable_level 0)) (Univ (variable_level 1)) [] → ⊥)
     × (Fits [] [] (Univ (variable_level 0)) (Univ (variable_level 1)) (one_more ∷ at_most_five ∷ []) → ⊥)
+
+-- over `A : Prop` the constant A has its shape where a type is wanted
+abbrev pub ConstantHasItsShape : Type 0
+ConstantHasItsShape = (t : Task) × (t.entries ≡ a_core) × (t.core ≡ Const 0) × (t.want ≡ AType) × HasShape t

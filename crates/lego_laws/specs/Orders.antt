@@ -1,5 +1,5 @@
 -- Lists of constants in another order, with fewer constants, or with some put in.
-use Rattle.std.specs.Prelude.{◌≡◌, ℕ, Bool, true, false, Option, Some, None, option_map, nat_eq, if◌then◌else◌, List, [], ◌∷◌, map}
+use Rattle.std.specs.Prelude.{◌≡◌, ℕ, Bool, true, false, Option, Some, None, option_map, nat_eq, if◌then◌else◌, List, [], ◌∷◌, ◌++◌, map}
 use Rattle.std.specs.List.{AllByRecursion}
 use Rattle.lego_term.specs.Trees.{Term, replace_constants}
 use Rattle.lego_laws.specs.Parallel.{TermBodies}
@@ -64,3 +64,7 @@ abbrev pub JudgementsFill : Type 0
 JudgementsFill =
     (chosen : ℕ → Bool) (es : List Constant) → AreValid es → (g : List Term) (m a : Term) → Has es g m a
     → Has (fill_all chosen es) (map (fill chosen es) g) (fill chosen es m) (fill chosen es a)
+
+-- the constants before any are valid
+abbrev pub PrefixesAreValid : Type 0
+PrefixesAreValid = (later es : List Constant) → AreValid (later ++ es) → AreValid es

@@ -1,7 +1,7 @@
 //! Laws of a comparison through head forms.
 
 ghost use Rattle.lego_laws.specs.Comparison.{ComparisonIsExact, FacingPartsAreRelated, DifferenceExcludesBelow, DifferenceExcludesConversion};
-ghost use Rattle.lego_laws.specs.Counting.{HeadStepsAreCounted, PartsStepsAreCounted, FewerStepsAreCounted, WalkedStepsAreCounted, LongWalksAreCostly, PartsAreReached, PartsEndTogether};
+ghost use Rattle.lego_laws.specs.Counting.{HeadStepsComeFirst, HeadStepsAreCounted, PartsStepsAreCounted, FewerStepsAreCounted, WalkedStepsAreCounted, LongWalksAreCostly, PartsAreReached, PartsEndTogether};
 
 /// The constraints that a comparison gathers are satisfied exactly where the first term is
 /// below the second, or converts with it.
@@ -24,6 +24,12 @@ pub fn difference_excludes_below()
 /// stand for the levels, 0 for all among them.
 pub fn difference_excludes_conversion()
     ensures { DifferenceExcludesConversion }
+{}
+
+/// The normalisation sequence goes on from each term of the head sequence, and ends where that
+/// term's does.
+pub fn head_steps_come_first()
+    ensures { HeadStepsComeFirst }
 {}
 
 /// Head steps are the first steps of the normalisation sequence.

@@ -2,7 +2,7 @@
 
 ghost use Rattle.lego_laws.specs.Abstraction.{Abstraction};
 ghost use Rattle.lego_laws.specs.Expansion.{Expansion, JudgementsExpand};
-ghost use Rattle.lego_laws.specs.Orders.{Reordering, ReorderedJudgements, FilledListsAreValid, JudgementsFill};
+ghost use Rattle.lego_laws.specs.Orders.{Reordering, ReorderedJudgements, FilledListsAreValid, JudgementsFill, PrefixesAreValid};
 ghost use Rattle.lego_laws.specs.Reduced.{ReducedListsAreValid, JudgementsOverReducedLists};
 ghost use Rattle.lego_laws.specs.Replacement.{Replacement, ClosingIsReplacement};
 ghost use Rattle.lego_laws.specs.Strengthening.{DroppedListsAreValid, Strengthening};
@@ -79,4 +79,9 @@ pub fn judgements_over_reduced_lists()
 /// valid, and each judgement stands under the locals.
 pub fn abstraction()
     ensures { Abstraction }
+{}
+
+/// The constants before any constant of a valid list are valid.
+pub fn prefixes_are_valid()
+    ensures { PrefixesAreValid }
 {}

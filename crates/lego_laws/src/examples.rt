@@ -1,6 +1,6 @@
 //! Small statements that show what the definitions say.
 
-ghost use Rattle.lego_laws.specs.Examples.{IdentityIsTyped, PropositionsHaveProducts, UniversesAreNoPropositions, NoSortIsInItself, DomainsMustConvert, RedexContracts, FourHeadSteps, RuleTypeOfIdentity, LevelsDontCountAtZero, UniverseFitsExactly};
+ghost use Rattle.lego_laws.specs.Examples.{IdentityIsTyped, PropositionsHaveProducts, UniversesAreNoPropositions, NoSortIsInItself, DomainsMustConvert, RedexContracts, FourHeadSteps, RuleTypeOfIdentity, LevelsDontCountAtZero, UniverseFitsExactly, ConstantHasItsShape};
 
 /// Over `A : Prop`, `[x:A]x` has the type `A->A`.
 pub fn identity_is_typed()
@@ -50,4 +50,9 @@ pub fn levels_dont_count_at_zero()
 /// Constraints that fit `Type(u0) : Type(u1)`, and two lists that don't.
 pub fn universe_fits_exactly()
     ensures { UniverseFitsExactly }
+{}
+
+/// Over `A : Prop` the constant A has its shape where a type is wanted.
+pub fn constant_has_its_shape()
+    ensures { ConstantHasItsShape }
 {}

@@ -10,25 +10,22 @@ mod principal;
 mod reduction;
 mod typing;
 
-ghost use Rattle.lego_laws.specs.Judgement.{Has};
-ghost use Rattle.lego_laws.specs.Fitting.{Fits};
-
 pub use comparison::{
     comparison_is_exact, difference_excludes_below, difference_excludes_conversion,
     facing_parts_are_related, fewer_steps_are_counted, head_steps_are_counted,
-    long_walks_are_costly, parts_are_reached, parts_end_together, parts_steps_are_counted,
-    walked_steps_are_counted,
+    head_steps_come_first, long_walks_are_costly, parts_are_reached, parts_end_together,
+    parts_steps_are_counted, walked_steps_are_counted,
 };
 pub use constants::{
     abstraction, closing_is_replacement, dropped_lists_are_valid, expansion,
     filled_lists_are_valid, judgements_expand, judgements_fill, judgements_over_reduced_lists,
-    reduced_lists_are_valid, reordered_judgements, reordering, replacement, strengthening,
-    translation,
+    prefixes_are_valid, reduced_lists_are_valid, reordered_judgements, reordering, replacement,
+    strengthening, translation,
 };
 pub use examples::{
-    domains_must_convert, four_head_steps, identity_is_typed, levels_dont_count_at_zero,
-    no_sort_is_in_itself, propositions_have_products, redex_contracts, rule_type_of_identity,
-    universe_fits_exactly, universes_are_no_propositions,
+    constant_has_its_shape, domains_must_convert, four_head_steps, identity_is_typed,
+    levels_dont_count_at_zero, no_sort_is_in_itself, propositions_have_products, redex_contracts,
+    rule_type_of_identity, universe_fits_exactly, universes_are_no_propositions,
 };
 pub use inference::{
     contexts_grow, contexts_widen, fits_against, fits_application, fits_by_others, fits_constant,
@@ -39,7 +36,9 @@ pub use principal::{
     argument_excludes, bodies_exclude, entries_are_a_context, entries_at_values,
     excluded_has_no_typing, head_excludes, head_forms_are_unique, mismatch_excludes,
     no_solution_excludes, no_type_excludes, parts_exclude, principal_checks, principal_types,
-    rule_types_are_unique, rule_types_rename, small_typings_have_small_solutions,
+    rule_types_are_below, rule_types_are_unique, rule_types_rename,
+    small_typings_have_small_solutions, typed_cores_have_wanted_heads,
+    typed_cores_have_wanted_pairs,
 };
 pub use reduction::{
     below_inverts, confluence, head_forms_compare, parallel_steps_meet, pi_inverts, sigma_inverts,

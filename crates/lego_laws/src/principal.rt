@@ -3,6 +3,7 @@
 ghost use Rattle.lego_laws.specs.Exclusion.{HeadExcludes, MismatchExcludes, ArgumentExcludes, NoSolutionExcludes, PartsExclude, BodiesExclude, NoTypeExcludes, ExcludedHasNoTyping};
 ghost use Rattle.lego_laws.specs.Principal.{EntriesAtValues, EntriesAreAContext, PrincipalTypes, PrincipalChecks, SmallTypingsHaveSmallSolutions};
 ghost use Rattle.lego_laws.specs.RuleTypeLaws.{HeadFormsAreUnique, RuleTypesAreUnique, RuleTypesRename};
+ghost use Rattle.lego_laws.specs.Shape.{RuleTypesAreBelow, TypedCoresHaveWantedHeads, TypedCoresHaveWantedPairs};
 
 /// The types and bodies of valid entries at an assignment are those of the entries, at the
 /// assignment.
@@ -85,4 +86,21 @@ pub fn rule_types_rename()
 /// Over entries, what is excluded has no typing by the rules.
 pub fn excluded_has_no_typing()
     ensures { ExcludedHasNoTyping }
+{}
+
+/// Each type of a term is above its rule type, for some values of the fresh level variables.
+pub fn rule_types_are_below()
+    ensures { RuleTypesAreBelow }
+{}
+
+/// In a typed core each wanted head is of the form that its place wants; so a head form of
+/// another form excludes every typing of the core.
+pub fn typed_cores_have_wanted_heads()
+    ensures { TypedCoresHaveWantedHeads }
+{}
+
+/// In a typed core each wanted pair is below with every level put to 0; so a pair that is not
+/// excludes every typing of the core.
+pub fn typed_cores_have_wanted_pairs()
+    ensures { TypedCoresHaveWantedPairs }
 {}
