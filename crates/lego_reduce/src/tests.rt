@@ -1,4 +1,6 @@
 //! The worked examples, normal forms of each form, and each call once.
+ghost use Rattle.std.specs.Prelude.{IfOk};
+ghost use Rattle.lego_term.specs.BodyMap.{AreClosed};
 
 use crate::{ReduceFault, head, normal};
 use lego_term::{
@@ -22,10 +24,22 @@ fn identity(alloc: Global) -> Result<Term, TermFault> {
     lam(alloc, PLAIN, &prop(alloc)?, &var(alloc, 0)?)
 }
 
+/// Each number from 1 below `count` unfolds to the one before it.
+fn chain(alloc: Global, count: u32) -> Result<Bodies, TermFault>
+    ensures { IfOk result (λ bodies. AreClosed bodies) }
+{
+    let mut bodies = Bodies::new(alloc);
+    for number in 1..count {
+        let body = konst(alloc, number - 1)?;
+        bodies.put(number, &body)?;
+    }
+    Ok(bodies)
+}
+
 #[test]
 fn self_application_has_no_end(rt: HostRuntime) -> Result<(), Fail> {
     let alloc = rt.alloc();
-    let bodies = Bodies::new(alloc);
+    let bodies = chain(alloc, 1)?;
     let own = apply(alloc, &var(alloc, 0)?, &var(alloc, 0)?)?;
     let twice = lam(alloc, PLAIN, &prop(alloc)?, &own)?;
     let t = apply(alloc, &twice, &twice)?;
@@ -38,10 +52,7 @@ fn self_application_has_no_end(rt: HostRuntime) -> Result<(), Fail> {
 #[test]
 fn each_unfolding_is_a_step(rt: HostRuntime) -> Result<(), Fail> {
     let alloc = rt.alloc();
-    let mut bodies = Bodies::new(alloc);
-    for number in 1..5 {
-        bodies.put(number, &konst(alloc, number - 1)?)?;
-    }
+    let bodies = chain(alloc, 5)?;
     let t = konst(alloc, 4)?;
     assert!(rt; t.loose() == 0);
     assert!(rt; head(alloc, &bodies, &t, 3).err() == Some(ReduceFault::Budget));
@@ -53,7 +64,7 @@ fn each_unfolding_is_a_step(rt: HostRuntime) -> Result<(), Fail> {
 #[test]
 fn a_head_form_leaves_its_arguments(rt: HostRuntime) -> Result<(), Fail> {
     let alloc = rt.alloc();
-    let bodies = Bodies::new(alloc);
+    let bodies = chain(alloc, 1)?;
     let redex = apply(alloc, &identity(alloc)?, &konst(alloc, 7)?)?;
     let t = apply(
         alloc,
@@ -79,7 +90,7 @@ fn normal_forms_reach_under_binders_and_into_pairs_and_projections(
     rt: HostRuntime,
 ) -> Result<(), Fail> {
     let alloc = rt.alloc();
-    let bodies = Bodies::new(alloc);
+    let bodies = chain(alloc, 1)?;
     let redex = apply(alloc, &identity(alloc)?, &var(alloc, 0)?)?;
     let inner = var(alloc, 0)?;
     let table = [
