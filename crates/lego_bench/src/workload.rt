@@ -35,6 +35,7 @@ pub fn run_workload(alloc: Global, name: &str, size: u32) -> Result<Counts, Benc
         "loop" => run_on(alloc, size),
         "unfold" => unfold(alloc, size),
         "exp" => exponential(alloc, size),
+        "deep" => deep(alloc, size),
         _ => Err(BenchFault::Usage),
     }
 }
@@ -149,6 +150,21 @@ fn exponential(alloc: Global, size: u32) -> Result<Counts, BenchFault> {
         &numeral(alloc, size)?,
         &numeral(alloc, 2)?,
     )?;
+    if t.loose() > 0 {
+        return Err(BenchFault::Usage);
+    }
+    let end = normal(alloc, &bodies, &t, LIMIT)?;
+    Ok(counts_of(&end.term, end.steps))
+}
+
+/// Normalises a redex under so many binders.
+fn deep(alloc: Global, size: u32) -> Result<Counts, BenchFault> {
+    let bodies = chain(alloc, 1)?;
+    let identity = lam(alloc, PLAIN, &prop(alloc)?, &var(alloc, 0)?)?;
+    let mut t = app(alloc, Mark::Plain, &identity, &konst(alloc, 7)?)?;
+    for _ in 0..size {
+        t = lam(alloc, PLAIN, &prop(alloc)?, &t)?;
+    }
     if t.loose() > 0 {
         return Err(BenchFault::Usage);
     }
