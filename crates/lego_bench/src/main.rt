@@ -6,27 +6,35 @@ mod fault;
 mod workload;
 
 use fault::BenchFault;
-use std::alloc::AllocGlobal;
+use std::alloc::{AllocGlobal, Global};
 use std::env;
 use std::env::Env;
-use workload::run_workload;
+use workload::{Counts, run_workload};
 
 fn main(rt: HostRuntime) -> Result<(), BenchFault> {
-    let words = words(&rt)?;
-    let mut at = 0;
-    while at + 1 < words.len() {
-        let name = words[at].as_str();
-        let Ok(size) = words[at + 1].as_str().parse::<u32>() else {
-            return Err(BenchFault::Usage);
+    let mut waiting: Option<String> = None;
+    for word in words(&rt)? {
+        let Some(name) = waiting.take() else {
+            waiting = Some(word);
+            continue;
         };
-        let counts = run_workload(rt.alloc(), name, size)?;
+        let counts = sized(rt.alloc(), name.as_str(), word.as_str())?;
         let (nodes, depth, steps) = (counts.nodes, counts.depth, counts.steps);
+        let name = name.as_str();
+        let size = word.as_str();
         if println!(rt; "{name} {size}: {nodes} nodes, {depth} deep, {steps} steps").is_err() {
             return Err(BenchFault::Write);
         }
-        at += 2;
     }
     Ok(())
+}
+
+/// Runs the workload of this name and written size.
+fn sized(alloc: Global, name: &str, size: &str) -> Result<Counts, BenchFault> {
+    let Ok(size) = size.parse::<u32>() else {
+        return Err(BenchFault::Usage);
+    };
+    run_workload(alloc, name, size)
 }
 
 /// The words behind the program's name.
