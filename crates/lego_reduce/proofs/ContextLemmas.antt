@@ -1,9 +1,9 @@
 -- The normalisation of a part, as a part of that of the whole.
-use Rattle.std.proofs.Common.{◌≡◌, ℕ, zero, suc, ◌+◌, ◌-◌, ◌<◌, ◌≤◌, Bool, true, false, Option, Some, None, refl, ap, sym, subst, ◌∙◌, arith, Result, Ok, Err}
+use Rattle.std.proofs.Common.{◌≡◌, ℕ, zero, suc, ◌+◌, ◌-◌, ◌<◌, ◌≤◌, Bool, true, false, Some, None, refl, ap, sym, subst, ◌∙◌, arith, Err}
 use Rattle.std.specs.Prelude.{option_and_then}
 use Rattle.std.proofs.lemmas.Bool.{false≢true}
 use Rattle.lego_term.specs.Trees.{Core, Bodies, depth}
-use Rattle.lego_term.specs.Sequences.{normal_step, after, MoreThan}
+use Rattle.lego_term.specs.Sequences.{normal_step, after}
 use Rattle.lego_term.specs.Parts.{Subtree, IsTooLarge, subtree}
 use Rattle.lego_term.specs.Made.{Makes}
 use Rattle.lego_term.specs.declared.binder.Binder.{Binder}

@@ -1,16 +1,16 @@
 -- Head steps within frames.
-use Rattle.std.proofs.Common.{◌≡◌, ℕ, ◌+◌, ◌-◌, ◌<◌, ◌≤◌, max, pred, Option, Some, None, List, [], ◌∷◌, ◌++◌, length, get_or, take, drop, refl, ap, sym, subst, ◌∙◌, arith}
+use Rattle.std.proofs.Common.{◌≡◌, ℕ, ◌≤◌, Option, Some, None, List, [], ◌∷◌, ◌++◌, take, drop, refl, ap, sym, ◌∙◌, arith}
 use Rattle.std.specs.Prelude.{option_map}
 use Rattle.std.proofs.lemmas.List.{take-append-drop}
-use Rattle.lego_term.specs.Trees.{Core, Var, Const, Prop, Univ, Pi, Lam, App, Sigma, Pair, Fst, Snd, Bodies, loose}
+use Rattle.lego_term.specs.Trees.{Core, Const, App, Fst, Snd, Bodies, loose}
 use Rattle.lego_term.specs.Sequences.{or_else, contract_app, contract_fst, contract_snd, head_step}
-use Rattle.lego_term.specs.Parts.{Subtree, whole, part, IsTooLarge, subtree}
+use Rattle.lego_term.specs.Parts.{Subtree, part, IsTooLarge, subtree}
 use Rattle.lego_term.specs.declared.binder.Binder.{Binder}
 use Rattle.lego_term.specs.declared.binder.Mark.{Mark}
 use Rattle.lego_term.specs.declared.level.Level.{Level}
 use Rattle.lego_reduce.specs.declared.frames.Frame.{Frame}
 use Rattle.lego_reduce.specs.declared.frames.Frame.TheVariants.{Argument, First, Second}
-use Rattle.lego_reduce.specs.Frames.{plug, plug_one, contract_one, IsHead}
+use Rattle.lego_reduce.specs.Frames.{plug, plug_one, contract_one}
 
 pub plug-push : (fs : List Frame) (f : Frame) (m : Core) → plug (fs ++ f ∷ []) m ≡ plug fs (plug_one f m)
 plug-push [] f m = refl

@@ -1,5 +1,5 @@
 -- Where the head machine stands in the head sequence.
-use Rattle.std.proofs.Common.{◌≡◌, ℕ, suc, ◌+◌, ◌<◌, ◌≤◌, inl, inr, nat_lt, Bool, true, false, Option, Some, None, refl, ap, sym, subst, ◌∙◌, arith, Result, Ok, Err}
+use Rattle.std.proofs.Common.{◌≡◌, ℕ, suc, ◌+◌, ◌≤◌, inl, inr, nat_lt, true, false, Some, None, ap, sym, ◌∙◌, arith, Err}
 use Rattle.std.proofs.lemmas.Bool.Decides.{nat_tests}
 use Rattle.lego_term.specs.Trees.{Core, loose}
 use Rattle.lego_term.specs.Sequences.{head_step, after, Ends}

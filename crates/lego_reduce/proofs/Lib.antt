@@ -1,3 +1,4 @@
+pub mod ClosedLemmas
 pub mod ContextLemmas
 pub mod FrameLemmas
 pub mod HeadLemmas

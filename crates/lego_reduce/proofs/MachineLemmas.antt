@@ -1,9 +1,9 @@
 -- What a turn answers at a frame, and around it.
-use Rattle.std.proofs.Common.{◌≡◌, ℕ, ◌+◌, ◌-◌, ◌<◌, ◌≤◌, ◌⊎◌, inl, inr, Bool, true, false, Option, Some, None, List, [], ◌∷◌, length, get_or, take, drop, refl, ap, sym, subst, ◌∙◌, arith, Result, Ok, Err}
+use Rattle.std.proofs.Common.{◌≡◌, ℕ, ◌+◌, ◌-◌, ◌<◌, inl, inr, Bool, true, Option, Some, None, List, ◌∷◌, length, get_or, take, drop, ap, sym, subst, ◌∙◌, arith, Result, Ok, Err}
 use Rattle.std.proofs.lemmas.List.{drop_more}
-use Rattle.lego_term.specs.Trees.{Core, Lam, App, Pair, Bodies, instantiate}
+use Rattle.lego_term.specs.Trees.{Core, Lam, Pair, Bodies, instantiate}
 use Rattle.lego_term.specs.Sequences.{head_step}
-use Rattle.lego_term.specs.Parts.{Subtree, whole, part, IsTooLarge, subtree}
+use Rattle.lego_term.specs.Parts.{IsTooLarge}
 use Rattle.lego_term.specs.Made.{Makes, Rebuilds}
 use Rattle.lego_term.specs.declared.binder.Binder.{Binder}
 use Rattle.lego_term.specs.declared.binder.Mark.{Mark}

@@ -1,9 +1,9 @@
 -- Normalisation steps of each form, and head steps among them.
-use Rattle.std.proofs.Common.{◌≡◌, ℕ, zero, suc, ◌+◌, ◌-◌, ◌<◌, ◌≤◌, ◌⊎◌, inl, inr, Bool, true, false, Option, Some, None, refl, ap, sym, subst, ◌∙◌, arith, Result, Ok, Err}
+use Rattle.std.proofs.Common.{◌≡◌, ℕ, zero, suc, ◌+◌, ◌-◌, ◌≤◌, inl, inr, Bool, false, Option, Some, None, refl, ap, sym, subst, ◌∙◌, arith, Err}
 use Rattle.std.specs.Prelude.{option_map, option_and_then}
-use Rattle.lego_term.specs.Trees.{Core, Var, Const, Prop, Univ, Pi, Lam, App, Sigma, Pair, Fst, Snd, Bodies, depth, loose}
+use Rattle.lego_term.specs.Trees.{Core, Const, Pi, Lam, App, Sigma, Pair, Fst, Snd, Bodies, loose}
 use Rattle.lego_term.specs.Sequences.{or_else, contract_app, contract_fst, contract_snd, head_step, normal_step, after}
-use Rattle.lego_term.specs.Parts.{Subtree, part}
+use Rattle.lego_term.specs.Parts.{part}
 use Rattle.lego_term.specs.declared.binder.Binder.{Binder}
 use Rattle.lego_term.specs.declared.binder.Mark.{Mark}
 use Rattle.lego_term.specs.declared.level.Level.{Level}

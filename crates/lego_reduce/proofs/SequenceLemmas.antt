@@ -1,7 +1,7 @@
 -- Sequences of steps.
-use Rattle.std.proofs.Common.{◌≡◌, ℕ, zero, suc, ◌+◌, ◌-◌, ◌<◌, ◌≤◌, Option, Some, None, refl, ap, sym, subst, ◌∙◌, arith}
+use Rattle.std.proofs.Common.{◌≡◌, ℕ, zero, suc, ◌+◌, Option, Some, None, refl, ap, sym, subst, ◌∙◌, arith}
 use Rattle.std.specs.Prelude.{option_and_then}
-use Rattle.lego_term.specs.Sequences.{after, Ends, MoreThan}
+use Rattle.lego_term.specs.Sequences.{after}
 
 module _ {T : Type 0} (next : T → Option T) where
   pub after-step : (n : ℕ) (t x : T) → next t ≡ Some x → after next (suc n) t ≡ after next n x

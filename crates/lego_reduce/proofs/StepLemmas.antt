@@ -1,11 +1,10 @@
 -- A head step raises the bound on the loose variables nowhere, where the bodies have none.
-use Rattle.std.proofs.Common.{◌≡◌, ℕ, pred, max, ◌≤◌, ◌⊎◌, inl, inr, Option, Some, None, refl, ap, sym, subst, ◌∙◌, arith}
+use Rattle.std.proofs.Common.{◌≡◌, max, ◌≤◌, ◌⊎◌, inl, inr, Option, Some, None, refl, ap, sym, arith}
 use Rattle.std.specs.Prelude.{option_map}
-use Rattle.lego_term.specs.Trees.{Core, Var, Const, Prop, Univ, Pi, Lam, App, Sigma, Pair, Fst, Snd, loose, instantiate}
+use Rattle.lego_term.specs.Trees.{Core, Const, Lam, App, Pair, Fst, Snd, loose, instantiate}
 use Rattle.lego_term.specs.Sequences.{or_else, contract_app, contract_fst, contract_snd, head_step}
 use Rattle.lego_term.specs.BodyMap.{BodyMap, bodies_in, AreClosed}
 use Rattle.lego_term.proofs.LooseLemmas.{loose-instantiate}
-use Rattle.lego_term.specs.declared.binder.Mark.{Mark}
 
 pub from_or_else : (o p : Option Core) (v : Core) → or_else o p ≡ Some v → (o ≡ Some v) ⊎ (p ≡ Some v)
 from_or_else None p v e = inr e

@@ -1,11 +1,8 @@
 -- What stands around the head of a term: arguments and projections.
-use Rattle.std.specs.Prelude.{◌≡◌, ℕ, Bool, true, false, ◌⊎◌, Option, Some, None, List, [], ◌∷◌, Result, Ok, Err}
-use Rattle.lego_term.specs.Trees.{Core, App, Fst, Snd, Bodies}
-use Rattle.lego_term.specs.Sequences.{contract_app, contract_fst, contract_snd, head_step}
+use Rattle.std.specs.Prelude.{◌≡◌, Bool, true, false, ◌⊎◌, Option, Some, None, List, [], ◌∷◌, Result, Ok, Err}
+use Rattle.lego_term.specs.Trees.{Core, App, Fst, Snd}
+use Rattle.lego_term.specs.Sequences.{contract_app, contract_fst, contract_snd}
 use Rattle.lego_term.specs.Parts.{IsTooLarge}
-use Rattle.lego_term.specs.declared.binder.Binder.{Binder}
-use Rattle.lego_term.specs.declared.binder.Mark.{Mark}
-use Rattle.lego_term.specs.declared.level.Level.{Level}
 use Rattle.lego_term.specs.declared.fault.TermFault.{TermFault}
 use Rattle.lego_term.specs.declared.fault.TermFault.TheVariants as term
 use Rattle.lego_reduce.specs.declared.fault.ReduceFault.{ReduceFault}

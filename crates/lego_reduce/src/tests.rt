@@ -1,4 +1,6 @@
 //! The worked examples, normal forms of each form, and each call once.
+ghost use Rattle.std.specs.Prelude.{◌<◌, IfOk};
+ghost use Rattle.lego_term.specs.BodyMap.{AreClosed};
 
 use crate::{ReduceFault, head, normal};
 use lego_term::{
@@ -17,15 +19,22 @@ fn apply(alloc: Global, m: &Term, n: &Term) -> Result<Term, TermFault> {
     app(alloc, Mark::Plain, m, n)
 }
 
-/// `[x:Prop]x`
-fn identity(alloc: Global) -> Result<Term, TermFault> {
-    lam(alloc, PLAIN, &prop(alloc)?, &var(alloc, 0)?)
+/// Each number from 1 below `count` unfolds to the one before it.
+fn chain(alloc: Global, count: u32) -> Result<Bodies, TermFault>
+    ensures { IfOk result (λ bodies. AreClosed bodies) }
+{
+    let mut bodies = Bodies::new(alloc);
+    for number in 1..count {
+        let body = konst(alloc, number - 1)?;
+        bodies.put(number, &body)?;
+    }
+    Ok(bodies)
 }
 
 #[test]
 fn self_application_has_no_end(rt: HostRuntime) -> Result<(), Fail> {
     let alloc = rt.alloc();
-    let bodies = Bodies::new(alloc);
+    let bodies = chain(alloc, 1)?;
     let own = apply(alloc, &var(alloc, 0)?, &var(alloc, 0)?)?;
     let twice = lam(alloc, PLAIN, &prop(alloc)?, &own)?;
     let t = apply(alloc, &twice, &twice)?;
@@ -38,10 +47,7 @@ fn self_application_has_no_end(rt: HostRuntime) -> Result<(), Fail> {
 #[test]
 fn each_unfolding_is_a_step(rt: HostRuntime) -> Result<(), Fail> {
     let alloc = rt.alloc();
-    let mut bodies = Bodies::new(alloc);
-    for number in 1..5 {
-        bodies.put(number, &konst(alloc, number - 1)?)?;
-    }
+    let bodies = chain(alloc, 5)?;
     let t = konst(alloc, 4)?;
     assert!(rt; t.loose() == 0);
     assert!(rt; head(alloc, &bodies, &t, 3).err() == Some(ReduceFault::Budget));
@@ -50,71 +56,67 @@ fn each_unfolding_is_a_step(rt: HostRuntime) -> Result<(), Fail> {
     Ok(())
 }
 
+/// `([x:Prop]x)` applied to the innermost variable.
+fn redex(alloc: Global) -> Result<Term, TermFault> {
+    let identity = lam(alloc, PLAIN, &prop(alloc)?, &var(alloc, 0)?)?;
+    apply(alloc, &identity, &var(alloc, 0)?)
+}
+
+/// Whether the term has the normal form `wanted`, behind exactly so many steps.
+fn reaches(alloc: Global, t: &Term, wanted: &Term, steps: u64) -> Result<bool, ReduceFault>
+    requires { 0 < steps }
+{
+    if t.loose() > 1 {
+        return Ok(false);
+    }
+    let bodies = chain(alloc, 1)?;
+    let end = normal(alloc, &bodies, t, steps)?;
+    let early = normal(alloc, &bodies, t, steps - 1).err();
+    let is_wanted = identical(&end.term, wanted);
+    Ok(end.steps == steps && is_wanted && early == Some(ReduceFault::Budget))
+}
+
+/// Each form with two parts, or a pair, by a number.
+fn form(alloc: Global, number: u32, a: &Term, b: &Term) -> Result<Term, TermFault> {
+    match number {
+        0 => pi(alloc, PLAIN, a, b),
+        1 => lam(alloc, PLAIN, a, b),
+        2 => sigma(alloc, PLAIN, a, b),
+        3 => pair(alloc, PLAIN, b, b, a, b),
+        _ => apply(alloc, b, a),
+    }
+}
+
 #[test]
 fn a_head_form_leaves_its_arguments(rt: HostRuntime) -> Result<(), Fail> {
     let alloc = rt.alloc();
-    let bodies = Bodies::new(alloc);
-    let redex = apply(alloc, &identity(alloc)?, &konst(alloc, 7)?)?;
-    let t = apply(
-        alloc,
-        &fst(alloc, &pair_of(alloc, &var(alloc, 3)?, &redex)?)?,
-        &redex,
-    )?;
-    assert!(rt; t.loose() == 4);
-    let end = head(alloc, &bodies, &t, 1)?;
-    assert!(rt; end.steps == 1 && identical(&end.term, &apply(alloc, &var(alloc, 3)?, &redex)?));
-    let end = normal(alloc, &bodies, &t, 2)?;
-    let wanted = apply(alloc, &var(alloc, 3)?, &konst(alloc, 7)?)?;
-    assert!(rt; end.steps == 2 && identical(&end.term, &wanted));
+    let bodies = chain(alloc, 1)?;
+    let t = apply(alloc, &var(alloc, 0)?, &redex(alloc)?)?;
+    assert!(rt; t.loose() == 1);
+    let end = head(alloc, &bodies, &t, 5)?;
+    assert!(rt; end.steps == 0 && identical(&end.term, &t));
     Ok(())
 }
 
-/// `(m, n)` at some type of pairs.
-fn pair_of(alloc: Global, m: &Term, n: &Term) -> Result<Term, TermFault> {
-    pair(alloc, PLAIN, &prop(alloc)?, &prop(alloc)?, m, n)
+#[test]
+fn normal_forms_reach_into_each_form(rt: HostRuntime) -> Result<(), Fail> {
+    let alloc = rt.alloc();
+    let inner = var(alloc, 0)?;
+    for number in 0..5 {
+        let t = form(alloc, number, &redex(alloc)?, &inner)?;
+        let wanted = form(alloc, number, &inner, &inner)?;
+        assert!(rt; reaches(alloc, &t, &wanted, 1)?, "form {number}");
+    }
+    Ok(())
 }
 
 #[test]
-fn normal_forms_reach_under_binders_and_into_pairs_and_projections(
-    rt: HostRuntime,
-) -> Result<(), Fail> {
+fn projections_take_their_part(rt: HostRuntime) -> Result<(), Fail> {
     let alloc = rt.alloc();
-    let bodies = Bodies::new(alloc);
-    let redex = apply(alloc, &identity(alloc)?, &var(alloc, 0)?)?;
     let inner = var(alloc, 0)?;
-    let table = [
-        (
-            pi(alloc, PLAIN, &redex, &redex)?,
-            pi(alloc, PLAIN, &inner, &inner)?,
-            2,
-        ),
-        (
-            lam(alloc, PLAIN, &redex, &redex)?,
-            lam(alloc, PLAIN, &inner, &inner)?,
-            2,
-        ),
-        (
-            sigma(alloc, PLAIN, &redex, &redex)?,
-            sigma(alloc, PLAIN, &inner, &inner)?,
-            2,
-        ),
-        (
-            pair_of(alloc, &redex, &redex)?,
-            pair_of(alloc, &inner, &inner)?,
-            2,
-        ),
-        (fst(alloc, &redex)?, fst(alloc, &inner)?, 1),
-        (
-            snd(alloc, &pair_of(alloc, &inner, &redex)?)?,
-            inner.share()?,
-            2,
-        ),
-    ];
-    for (t, wanted, steps) in &table {
-        assert!(rt; t.loose() <= 1);
-        let end = normal(alloc, &bodies, t, *steps)?;
-        assert!(rt; end.steps == *steps && identical(&end.term, wanted));
-        assert!(rt; normal(alloc, &bodies, t, *steps - 1).err() == Some(ReduceFault::Budget));
-    }
+    let both = form(alloc, 3, &konst(alloc, 7)?, &inner)?;
+    assert!(rt; reaches(alloc, &fst(alloc, &both)?, &konst(alloc, 7)?, 1)?);
+    assert!(rt; reaches(alloc, &snd(alloc, &both)?, &inner, 1)?);
+    assert!(rt; reaches(alloc, &fst(alloc, &redex(alloc)?)?, &fst(alloc, &inner)?, 1)?);
     Ok(())
 }

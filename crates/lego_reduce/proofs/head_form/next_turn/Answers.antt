@@ -1,4 +1,4 @@
-use Rattle.std.proofs.Common.{◌≡◌, ◌≤◌, None, Some, ap, sym, subst, ◌∙◌, arith}
+use Rattle.std.proofs.Common.{◌≡◌, None, ap, sym, subst, ◌∙◌, arith}
 use Rattle.lego_term.specs.Trees.{Core, loose}
 use Rattle.lego_term.specs.Sequences.{head_step}
 use Rattle.lego_term.specs.BodyMap.{bodies_in}

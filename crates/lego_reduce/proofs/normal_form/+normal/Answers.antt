@@ -1,11 +1,11 @@
-use Rattle.std.proofs.Common.{◌≡◌, ◌+◌, ◌-◌, ◌<◌, ◌≤◌, rules, arith, refl, sym, subst, false}
+use Rattle.std.proofs.Common.{◌+◌, arith, sym, subst, false}
 use Rattle.std.proofs.lemmas.Result.{err_from_is_err_and}
-use Rattle.lego_term.specs.Trees.{Core, App, Pair, depth, loose}
+use Rattle.lego_term.specs.Trees.{Core, App, Pair}
 use Rattle.lego_term.specs.BodyMap.{bodies_in}
 use Rattle.lego_reduce.specs.Nesting.{bound, projected, Arrives}
 use Rattle.lego_term.specs.Sequences.{normal_step}
 use Rattle.lego_reduce.proofs.ContextLemmas.{first_walks, first_fault, part_walks, part_fault, walk_fault, walk_end}
-use Rattle.lego_reduce.proofs.NormalLemmas.{IsNeutral, IsStopped, app_neutral, app_first, app_second, app_end, bound_first, bound_second, bound_end, projected_stopped, projected_part, projected_end, pair_first, pair_second, pair_third, pair_fourth, pair_end, after_head, head_fault, chain_fault, chain, chain_stays, around_bound_first, around_bound_second, around_function, around_argument, around_projected, around_pair_first, around_pair_second, around_pair_third, around_pair_fourth, loose_bound_first, loose_bound_second, loose_projected}
+use Rattle.lego_reduce.proofs.NormalLemmas.{IsNeutral, IsStopped, app_neutral, app_first, app_second, app_end, bound_first, bound_second, bound_end, projected_stopped, projected_part, projected_end, pair_first, pair_second, pair_third, pair_fourth, pair_end, after_head, head_fault, chain_fault, chain, chain_stays, around_bound_first, around_bound_second, around_function, around_argument, around_projected, around_pair_first, around_pair_second, around_pair_third, around_pair_fourth}
 use Rattle.lego_reduce.proofs.normal_form.+normal.Goals as goal
 
 pub application_parts-returns-in_err-first : goal.application_parts-returns-in_err-first

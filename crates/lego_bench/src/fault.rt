@@ -1,0 +1,36 @@
+use lego_reduce::ReduceFault;
+use lego_term::TermFault;
+use std::alloc::AllocError;
+
+/// Why a workload was not run.
+#[derive(Debug, Clone, Copy, PartialEq, Eq, Drop)]
+pub enum BenchFault {
+    /// The words are no workloads with their sizes.
+    Usage,
+    /// A term could not be made.
+    Term(TermFault),
+    /// A term could not be reduced.
+    Reduce(ReduceFault),
+    /// The counts could not be written.
+    Write,
+    /// Memory ran out.
+    Memory,
+}
+
+impl From<TermFault> for BenchFault {
+    fn from(fault: TermFault) -> BenchFault {
+        BenchFault::Term(fault)
+    }
+}
+
+impl From<ReduceFault> for BenchFault {
+    fn from(fault: ReduceFault) -> BenchFault {
+        BenchFault::Reduce(fault)
+    }
+}
+
+impl From<AllocError> for BenchFault {
+    fn from(_: AllocError) -> BenchFault {
+        BenchFault::Memory
+    }
+}
