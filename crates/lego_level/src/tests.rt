@@ -182,16 +182,3 @@ fn small_graphs_agree_with_a_plain_search(rt: HostRuntime) -> Result<(), Fail> {
     }
     Ok(())
 }
-
-#[test]
-fn a_long_cycle_is_found(rt: HostRuntime) -> Result<(), Fail> {
-    let alloc = rt.alloc();
-    let mut chain = Vec::new(alloc);
-    for number in 0..999 {
-        chain.push(at_most(variable(number, 0), variable(number + 1, 0)))?;
-    }
-    let closing = at_most(variable(999, 1), variable(0, 0));
-    let outcome = outcome_of(alloc, chain.as_slice(), &[closing]);
-    assert!(rt; matches!(outcome, Err(GraphFault::Cycle(cycle)) if cycle.items().len() == 1000));
-    Ok(())
-}
