@@ -64,9 +64,11 @@ impl Graph {
         cut(&mut self.solver, n);
     }
 
-    /// The constraints, in the order in which they were added.
+    /// The constraints, in the order in which they were added. They can be satisfied with values
+    /// up to 1,000,000.
     pub fn constraints(&self) -> &[Constraint]
-        ensures { result.now ≡ self.now }
+        ensures items { result.now ≡ self.now }
+        ensures within { CanBeSatisfiedWithin self.now }
     {
         self.solver.constraints()
     }
