@@ -111,7 +111,7 @@ holds names b {m} {fs = fs} all h Runs.stay = subst (λ l. Holds names b m fs l)
 holds names b {m' = m'} {fs' = fs'} all h (Runs.go {t = t} {ts = ts} f x r) =
     subst (λ l. Holds names b m' fs' l) (append_assoc all (t ∷ []) ts) (holds names b (all ++ t ∷ []) (step names b all h f x) r)
 
-map-both : (ts us : List Nested) → map item (ts ++ us) ≡ map item ts ++ map item us
+pub map-both : (ts us : List Nested) → map item (ts ++ us) ≡ map item ts ++ map item us
 map-both [] us = refl
 map-both (t ∷ ts) us = ap (λ l. item t ∷ l) (map-both ts us)
 

@@ -6,3 +6,4 @@ pub mod Finish
 pub mod Moving
 pub mod Unique
 pub mod Beginnings
+pub mod Refusals

@@ -187,7 +187,7 @@ contexts_agree {names' = names'} {c' = c'} (ReadsCommand.command p r) q e h =
     let y = context_ends r h in
     exclusive c'.deed y.0 y.1 (symbol 0 p Semicolon) y.3 (complete_command names' false q) (e ∙ ap (λ l. map item (l ++ symbol 0 p Semicolon ∷ [])) y.2)
 
-same_start : (d d' : Deed) → (IsContext d → IsContext d') → (IsContext d' → IsContext d) → start_of d ≡ start_of d'
+pub same_start : (d d' : Deed) → (IsContext d → IsContext d') → (IsContext d' → IsContext d) → start_of d ≡ start_of d'
 same_start (Deed.Bindings bs) (Deed.Bindings cs) f g = refl
 same_start (Deed.Bindings bs) _ f g = absurd (f tt)
 same_start _ (Deed.Bindings cs) f g = absurd (g tt)

@@ -1,7 +1,7 @@
 -- The laws of the grammar: what makes "the" reading of tokens, and "the" nesting of a token.
 use Rattle.std.specs.Prelude.{◌≡◌, ◌⊎◌, ℕ, List, Some, map, slice_get}
 use Rattle.lego_grammar.specs.Written.{Order}
-use Rattle.lego_grammar.specs.Grammar.{Names, Nested, Item, item, ReadsCommand, GoesOn, IsContext}
+use Rattle.lego_grammar.specs.Grammar.{Names, Nested, Item, item, ReadsCommand, GoesOn, IsUnexpected, IsContext, IsTooDeep}
 
 -- different numbers have different texts
 abbrev pub Differ : Names → Type 0
@@ -28,3 +28,9 @@ OneKind =
 -- it is decided whether some command begins with these tokens
 abbrev pub Decided : Type 0
 Decided = (tokens : List Item) → GoesOn tokens ⊎ (GoesOn tokens → ⊥)
+
+-- at most one token is the first after which no reading exists, and at most one the first that is nested too deep
+abbrev pub OneRefusal : Type 0
+OneRefusal =
+    ((tokens : List Item) (n m : ℕ) → IsUnexpected tokens n → IsUnexpected tokens m → n ≡ m)
+    × ((tokens : List Item) (n m : ℕ) → IsTooDeep tokens n → IsTooDeep tokens m → n ≡ m)

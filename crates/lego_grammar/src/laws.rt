@@ -1,5 +1,5 @@
 //! Laws of the grammar, each the contract of a function that does nothing.
-ghost use Rattle.lego_grammar.specs.Laws.{OneReading, OneNesting, OneKind, Decided};
+ghost use Rattle.lego_grammar.specs.Laws.{OneReading, OneNesting, OneKind, OneRefusal, Decided};
 
 /// A list of tokens is read as one command at most, where each name has one number.
 pub fn readings_are_one()
@@ -20,4 +20,10 @@ pub fn kinds_are_one()
 /// stands after which no reading exists.
 pub fn beginnings_are_decided()
     ensures { Decided }
+{}
+
+/// At most one token is the first after which no reading exists, and at most one the first
+/// that is nested 501 levels deep.
+pub fn refusals_are_one()
+    ensures { OneRefusal }
 {}

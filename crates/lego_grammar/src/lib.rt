@@ -11,5 +11,7 @@ ghost use Rattle.lego_grammar.specs.Surface.{order_of};
 
 pub use command::{Act, Binding, BindingKind, Command};
 pub use fault::ParseFault;
-pub use laws::{beginnings_are_decided, kinds_are_one, nestings_are_one, readings_are_one};
+pub use laws::{
+    beginnings_are_decided, kinds_are_one, nestings_are_one, readings_are_one, refusals_are_one,
+};
 pub use surface::{Kind, Part, Surface};
