@@ -1,3 +1,5 @@
 pub mod Written
 pub mod Grammar
+pub mod Laws
+pub mod Machine
 pub mod Surface

@@ -1,7 +1,7 @@
 -- The plain tree of a written term, in which each argument and each projection is a node of its own.
-use Rattle.std.specs.Prelude.{List, [], ◌∷◌, ℕ, Option, option_map, map}
+use Rattle.std.specs.Prelude.{List, [], ◌∷◌, option_map, map}
 use Rattle.lego_term.specs.declared.binder.Mark.{Mark}
-use Rattle.lego_grammar.specs.Written.{Written, Named, WrittenProp, AnyType as WrittenType, TypeAt as WrittenAt, GoalAt, Bind as Binds, Local as Locally, Apply as Applies, Couple, Project as Projects, NameAt, Says, Assumed, Defined, Bound, Deed, Order}
+use Rattle.lego_grammar.specs.Written.{Written, Named, WrittenProp, AnyType as WrittenType, TypeAt as WrittenAt, GoalAt, Bind as Binds, Local as Locally, Apply as Applies, Couple, Project as Projects, Says, Assumed, Defined, Bound, Deed, Order}
 use Rattle.lego_grammar.specs.declared.surface.Part.{Part}
 use Rattle.lego_grammar.specs.declared.surface.Surface.{Surface}
 use Rattle.lego_grammar.specs.declared.surface.Surface.TheOpen.{Surface-F, Name, Prop, AnyType, TypeAt, Hole, Bind, Local, Apply, Pair, Project}
@@ -11,7 +11,6 @@ use Rattle.lego_grammar.specs.declared.command.BindingKind.TheVariants.{Assume, 
 use Rattle.lego_grammar.specs.declared.command.Binding.{Binding}
 use Rattle.lego_grammar.specs.declared.command.Command.{Command}
 use Rattle.lego_grammar.specs.declared.command.Act.{Act}
-use Rattle.lego_grammar.specs.declared.command.Act.TheVariants as Act
 
 -- the function applied to its arguments, one after the other
 abbrev pub applied : Written → List (Mark × Written) → Written

@@ -30,25 +30,57 @@ pub struct Command {
 /// What a command asks for.
 #[derive(Drop)]
 pub enum Act {
-    Bind { bindings: List<Binding> },
-    Goal { name: Option<u32>, ty: Surface },
-    Intros { places: List<Place>, names: List<u32> },
-    Refine { term: Surface },
-    Claim { ty: Surface },
-    Next { number: u32 },
+    Bind {
+        bindings: List<Binding>,
+    },
+    Goal {
+        name: Option<u32>,
+        ty: Surface,
+    },
+    Intros {
+        places: List<Place>,
+        names: List<u32>,
+    },
+    Refine {
+        term: Surface,
+    },
+    Claim {
+        ty: Surface,
+    },
+    Next {
+        number: u32,
+    },
     Assumption,
-    Equiv { ty: Surface },
-    Save { name: Option<u32> },
+    Equiv {
+        ty: Surface,
+    },
+    Save {
+        name: Option<u32>,
+    },
     KillRef,
-    Undo { count: u32 },
-    Forget { place: Place, name: u32 },
-    Discharge { place: Place, name: u32 },
+    Undo {
+        count: u32,
+    },
+    Forget {
+        place: Place,
+        name: u32,
+    },
+    Discharge {
+        place: Place,
+        name: u32,
+    },
     Prf,
     Ctxt,
-    Hnf { term: Surface },
-    Normal { term: Surface },
+    Hnf {
+        term: Surface,
+    },
+    Normal {
+        term: Surface,
+    },
     Explicit,
     Implicit,
     /// A term alone.
-    Show { term: Surface },
+    Show {
+        term: Surface,
+    },
 }

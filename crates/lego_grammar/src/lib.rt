@@ -1,12 +1,17 @@
-//! Written terms and commands, and the parser that reads them from tokens.
+//! Written terms and commands, the grammar that reads them from tokens, and its laws.
 #![tactic(auto)]
 
 mod command;
 mod fault;
+mod laws;
 mod surface;
+
+ghost use Rattle.lego_grammar.specs.Grammar.{IsTooDeep};
+ghost use Rattle.lego_grammar.specs.Surface.{order_of};
 
 pub use command::{Act, Binding, BindingKind, Command};
 pub use fault::ParseFault;
+pub use laws::{
+    beginnings_are_decided, kinds_are_one, nestings_are_one, readings_are_one, refusals_are_one,
+};
 pub use surface::{Kind, Part, Surface};
-
-ghost use Rattle.lego_grammar.specs.Grammar.{IsTooDeep};

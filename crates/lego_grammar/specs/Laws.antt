@@ -1,0 +1,36 @@
+-- The laws of the grammar: what makes "the" reading of tokens, and "the" nesting of a token.
+use Rattle.std.specs.Prelude.{◌≡◌, ◌⊎◌, ℕ, List, Some, map, slice_get}
+use Rattle.lego_grammar.specs.Written.{Order}
+use Rattle.lego_grammar.specs.Grammar.{Names, Nested, Item, item, ReadsCommand, GoesOn, IsUnexpected, IsContext, IsTooDeep}
+
+-- different numbers have different texts
+abbrev pub Differ : Names → Type 0
+Differ names = (i j : ℕ) (text : List ℕ) → slice_get names i ≡ Some text → slice_get names j ≡ Some text → i ≡ j
+
+-- the same tokens are read as one command only
+abbrev pub OneReading : Type 0
+OneReading =
+    (names : Names) (ts us : List Nested) (c c' : Order) → Differ names → ReadsCommand names ts c → ReadsCommand names us c'
+    → map item ts ≡ map item us → c ≡ c'
+
+-- each token of a command has one nesting, however its names are numbered
+abbrev pub OneNesting : Type 0
+OneNesting =
+    (names names' : Names) (ts us : List Nested) (c c' : Order) → ReadsCommand names ts c → ReadsCommand names' us c'
+    → map item ts ≡ map item us → ts ≡ us
+
+-- the same tokens aren't both a context command and another one
+abbrev pub OneKind : Type 0
+OneKind =
+    (names names' : Names) (ts us : List Nested) (c c' : Order) → ReadsCommand names ts c → ReadsCommand names' us c'
+    → map item ts ≡ map item us → IsContext c.deed → IsContext c'.deed
+
+-- it is decided whether some command begins with these tokens
+abbrev pub Decided : Type 0
+Decided = (tokens : List Item) → GoesOn tokens ⊎ (GoesOn tokens → ⊥)
+
+-- at most one token is the first after which no reading exists, and at most one the first that is nested too deep
+abbrev pub OneRefusal : Type 0
+OneRefusal =
+    ((tokens : List Item) (n m : ℕ) → IsUnexpected tokens n → IsUnexpected tokens m → n ≡ m)
+    × ((tokens : List Item) (n m : ℕ) → IsTooDeep tokens n → IsTooDeep tokens m → n ≡ m)
