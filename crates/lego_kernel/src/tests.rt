@@ -30,7 +30,11 @@ fn entries_come_one_after_the_other_and_go_from_the_end(rt: HostRuntime) -> Resu
     assert!(rt; context.len() == 2);
     assert!(rt; context.position(7) == Some(0) && context.position(4) == Some(1));
     assert!(rt; context.position(0).is_none());
-    assert!(rt; context.entry(1).is_some_and(|entry| entry.number == 1 && entry.name == Some(4)));
+    assert!(rt;
+        context
+            .entry(1)
+            .is_some_and(|entry| entry.number == 1 && entry.name == Some(4))
+    );
     assert!(rt; context.entry(2).is_none());
     context.forget(1);
     assert!(rt; context.len() == 1 && context.position(4).is_none());

@@ -8,9 +8,13 @@ use Rattle.lego_kernel.proofs.TypeFaultLemmas.{on_ok}
 use Rattle.lego_kernel.proofs.context.Context.assume.Goals as goal
 
 pub returns-then-len-eq-MAX_ENTRIES-clause-cause : goal.returns-then-len-eq-MAX_ENTRIES-clause-cause
-returns-then-len-eq-MAX_ENTRIES-clause-cause c =
-    (sym c.position.ensures ∙ c.in_default.is, c.in_ok-check_type.ensures.ok,
-    ap (λ (es : List Item). length es) (sym c.self.view_is) ∙ sym c.self.inside.entries.ok.0 ∙ sym c.len.ensures ∙ c.if-len-eq-MAX_ENTRIES.true, refl, refl)
+returns-then-len-eq-MAX_ENTRIES-clause-cause c = (
+  sym c.position.ensures ∙ c.in_default.is,
+  c.in_ok-check_type.ensures.ok,
+  ap (λ (es : List Item). length es) (sym c.self.view_is) ∙ sym c.self.inside.entries.ok.0 ∙ sym c.len.ensures ∙ c.if-len-eq-MAX_ENTRIES.true,
+  refl,
+  refl,
+)
 
 pub add-requires-clause-admitted : goal.add-requires-clause-admitted
 add-requires-clause-admitted c =
