@@ -5,6 +5,8 @@
 mod context;
 mod entry;
 mod fault;
+#[cfg(test)]
+mod tests;
 
 pub use context::{Context, MAX_ENTRIES};
 pub use entry::{At, Entry};

@@ -1,9 +1,10 @@
 -- Expansion of definitions, and derivations over assumptions alone.
-use Rattle.std.specs.Prelude.{◌≡◌, ℕ, List, [], ◌∷◌, Option, Some, None, option_map, nat_eq, if◌then◌else◌, IfSome, IfNone}
+use Rattle.std.specs.Prelude.{◌≡◌, ℕ, List, [], ◌∷◌, Option, Some, None, option_map, nat_eq, if◌then◌else◌, IfSome, IfNone, map}
 use Rattle.std.specs.List.{AllByRecursion}
 use Rattle.lego_term.specs.Trees.{Term, Univ, replace_constants}
 use Rattle.lego_laws.specs.Entries.{Constant}
 use Rattle.lego_laws.specs.Judgement.{Has}
+use Rattle.lego_laws.specs.Valid.{AreValid}
 
 -- what a constant with a body is replaced by: its body's expansion over the entries before it
 abbrev pub expansions : List Constant → ℕ → Option Term
@@ -42,3 +43,13 @@ HoldsPurely (e ∷ before) =
     IfNone e.body (IsPureType (expand_all before) (expand before e.ty))
     × IfSome e.body (λ m. HasPurely (expand_all before) [] (expand before m) (expand before e.ty))
     × HoldsPurely before
+
+-- a valid list expands to pure derivations
+abbrev pub Expansion : Type 0
+Expansion = (es : List Constant) → AreValid es → HoldsPurely es
+
+-- a judgement over valid constants expands to a pure one
+abbrev pub JudgementsExpand : Type 0
+JudgementsExpand =
+    (es : List Constant) → AreValid es → (g : List Term) (m a : Term) → Has es g m a
+    → HasPurely (expand_all es) (map (expand es) g) (expand es m) (expand es a)

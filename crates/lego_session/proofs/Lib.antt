@@ -3,3 +3,16 @@ pub mod TextLemmas
 pub mod BindingLemmas
 pub mod BindAllLemmas
 pub mod StepLemmas
+pub mod CutLemmas
+pub mod TokenLemmas
+pub mod KnownLemmas
+pub mod DenotesPrintable
+pub mod DenotesTexts
+pub mod DenotesNames
+pub mod DenotesTypes
+pub mod DenotesEntries
+pub mod DenotesLemmas
+pub mod PrintableLemmas
+pub mod PlacesLemmas
+pub mod OutcomeLemmas
+pub mod RunLemmas

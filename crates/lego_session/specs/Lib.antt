@@ -6,3 +6,8 @@ pub mod Steps
 pub mod Binding
 pub mod Commands
 pub mod Denotes
+pub mod Runs
+pub mod Headline
+pub mod Statuses
+pub mod Outcomes
+pub mod Progress

@@ -6,8 +6,15 @@ mod binding;
 mod reading;
 mod refusal;
 mod refusal_text;
+mod running;
+mod script;
 mod session;
+mod status;
+#[cfg(test)]
+mod tests;
 mod text;
 
 pub use refusal::{Cause, Refusal};
+pub use running::run;
 pub use session::{Answer, Session};
+pub use status::Status;

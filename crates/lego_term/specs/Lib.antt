@@ -5,8 +5,12 @@ pub mod Below
 pub mod Sequences
 pub mod Parts
 pub mod TreeCode
+pub mod ConstantBound
 pub mod Form
 pub mod TermFalls
 pub mod Made
 pub mod Node
+pub mod BodyMap
+pub mod Agreement
+pub mod Listed
 pub mod formers

@@ -3,17 +3,29 @@
 #![tactic(auto)]
 
 mod binder;
+mod bodies;
+mod constants;
+mod equality;
 mod fault;
 mod level;
+mod lifting;
 mod list;
+mod makers;
 mod seen;
+mod substitution;
 mod term;
+#[cfg(test)]
+mod tests;
 
 pub use binder::{Binder, Mark};
+pub use bodies::Bodies;
+pub use constants::{close_over, mentions, replace_consts};
+pub use equality::{equal, equal_but_levels, identical};
 pub use fault::TermFault;
 pub use level::Level;
+pub use lifting::lift;
 pub use list::List;
+pub use makers::{app, fst, konst, lam, pair, pi, prop, sigma, snd, univ, var};
 pub use seen::Seen;
-pub use term::{
-    MAX_DEPTH, MAX_SIZE, Node, Term, app, fst, konst, lam, pair, pi, prop, sigma, snd, univ, var,
-};
+pub use substitution::subst;
+pub use term::{MAX_DEPTH, MAX_SIZE, Node, Term};

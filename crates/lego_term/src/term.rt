@@ -1,7 +1,8 @@
-//! Shared terms, and the calls that make them.
-ghost use Rattle.std.specs.Prelude.{◌≡◌, ◌+◌, ◌^◌, ◌<◌, ◌≤◌, IfOk};
-ghost use Rattle.lego_term.specs.Trees.{Var, Const, Prop, Univ, Pi, Lam, App, Sigma, Pair, Fst, Snd, size, depth, loose};
+//! Shared terms.
+ghost use Rattle.std.specs.Prelude.{◌≡◌, ◌≤◌, IfOk};
+ghost use Rattle.lego_term.specs.Trees.{size, depth, loose};
 ghost use Rattle.lego_term.specs.Made.{Makes, Fits};
+ghost use Rattle.lego_term.specs.ConstantBound.{constant_bound};
 ghost use Rattle.lego_term.specs.Form.{tree_of, HasNumbers};
 ghost use Rattle.lego_term.specs.Node.{shown};
 
@@ -25,12 +26,13 @@ pub struct Term {
     size: u64,
     depth: u32,
     loose: u32,
+    constants: u64,
     form: Rc<Form>,
 }
 
 #[cycle(term)]
 #[derive(Drop)]
-enum Form {
+pub(crate) enum Form {
     Var(u32),
     Const(u32),
     Prop,
@@ -56,7 +58,7 @@ impl Model for Term {
 
     ghost view = { λ t. tree_of t.form.value };
 
-    ghost invariant = { λ t. HasNumbers (tree_of t.form.value) t.size t.depth t.loose };
+    ghost invariant = { λ t. HasNumbers (tree_of t.form.value) t.size t.depth t.loose t.constants };
 
     ghost size = { nodes_of };
 
@@ -68,13 +70,15 @@ impl Model for Term {
 impl Term {
     /// The same tree, shared.
     pub fn share(&self) -> Result<Term, AllocError>
-        ensures { IfOk result (λ t. t ≡ self.now) }
+        ensures same { IfOk result (λ t. t ≡ self.now) }
+        ensures limits { Fits self.now }
     {
         let form = self.form.clone()?;
         Ok(Term {
             size: self.size,
             depth: self.depth,
             loose: self.loose,
+            constants: self.constants,
             form,
         })
     }
@@ -103,6 +107,13 @@ impl Term {
         self.loose
     }
 
+    /// One more than the greatest constant, or 0.
+    pub(crate) fn constants(&self) -> u64
+        ensures { result ≡ constant_bound self.now }
+    {
+        self.constants
+    }
+
     /// The root, with the parts below it.
     pub fn view(&self) -> Node<'_>
         ensures root { shown result ≡ self.now }
@@ -124,8 +135,15 @@ impl Term {
     }
 
     /// A term of this form, whose numbers are given.
-    fn of(alloc: Global, form: Form, size: u64, depth: u32, loose: u32) -> Result<Term, TermFault>
-        requires { HasNumbers (tree_of form) size depth loose }
+    pub(crate) fn of(
+        alloc: Global,
+        form: Form,
+        size: u64,
+        depth: u32,
+        loose: u32,
+        constants: u64,
+    ) -> Result<Term, TermFault>
+        requires { HasNumbers (tree_of form) size depth loose constants }
         ensures { Makes (tree_of form) result }
     {
         match Rc::new(alloc, form) {
@@ -133,153 +151,12 @@ impl Term {
                 size,
                 depth,
                 loose,
+                constants,
                 form,
             }),
             Err(_) => Err(TermFault::Memory),
         }
     }
-}
-
-/// The variable of this index.
-pub fn var(alloc: Global, index: u32) -> Result<Term, TermFault>
-    requires { index < 65536 }
-    ensures { Makes (Var index) result }
-{
-    variable(alloc, index)
-}
-
-/// The same for each index that can be counted past.
-pub(crate) fn variable(alloc: Global, index: u32) -> Result<Term, TermFault>
-    requires { index + 1 < 2 ^ 32 }
-    ensures { Makes (Var index) result }
-{
-    Term::of(alloc, Form::Var(index), 1, 1, index + 1)
-}
-
-/// The constant of this number.
-pub fn konst(alloc: Global, number: u32) -> Result<Term, TermFault>
-    ensures { Makes (Const number) result }
-{
-    Term::of(alloc, Form::Const(number), 1, 1, 0)
-}
-
-/// The universe of propositions.
-pub fn prop(alloc: Global) -> Result<Term, TermFault>
-    ensures { Makes Prop result }
-{
-    Term::of(alloc, Form::Prop, 1, 1, 0)
-}
-
-/// The product over a domain.
-pub fn pi(alloc: Global, binder: Binder, domain: &Term, body: &Term) -> Result<Term, TermFault>
-    ensures { Makes (Pi binder domain.now body.now) result }
-{
-    let size = domain.size() + body.size() + 1;
-    let depth = domain.depth().max(body.depth()) + 1;
-    let loose = domain.loose().max(body.loose().saturating_sub(1));
-    if size > MAX_SIZE || depth > MAX_DEPTH {
-        return Err(TermFault::TooLarge { size, depth });
-    }
-    let form = Form::Pi(binder, domain.share()?, body.share()?);
-    Term::of(alloc, form, size, depth, loose)
-}
-
-/// A function applied to an argument.
-pub fn app(alloc: Global, mark: Mark, function: &Term, argument: &Term) -> Result<Term, TermFault>
-    ensures { Makes (App mark function.now argument.now) result }
-{
-    let size = function.size() + argument.size() + 1;
-    let depth = function.depth().max(argument.depth()) + 1;
-    let loose = function.loose().max(argument.loose());
-    if size > MAX_SIZE || depth > MAX_DEPTH {
-        return Err(TermFault::TooLarge { size, depth });
-    }
-    let form = Form::App(mark, function.share()?, argument.share()?);
-    Term::of(alloc, form, size, depth, loose)
-}
-
-/// The abstraction over a domain.
-pub fn lam(alloc: Global, binder: Binder, domain: &Term, body: &Term) -> Result<Term, TermFault>
-    ensures { Makes (Lam binder domain.now body.now) result }
-{
-    let size = domain.size() + body.size() + 1;
-    let depth = domain.depth().max(body.depth()) + 1;
-    let loose = domain.loose().max(body.loose().saturating_sub(1));
-    if size > MAX_SIZE || depth > MAX_DEPTH {
-        return Err(TermFault::TooLarge { size, depth });
-    }
-    let form = Form::Lam(binder, domain.share()?, body.share()?);
-    Term::of(alloc, form, size, depth, loose)
-}
-
-/// The type of the pairs over two types.
-pub fn sigma(alloc: Global, binder: Binder, first: &Term, second: &Term) -> Result<Term, TermFault>
-    ensures { Makes (Sigma binder first.now second.now) result }
-{
-    let size = first.size() + second.size() + 1;
-    let depth = first.depth().max(second.depth()) + 1;
-    let loose = first.loose().max(second.loose().saturating_sub(1));
-    if size > MAX_SIZE || depth > MAX_DEPTH {
-        return Err(TermFault::TooLarge { size, depth });
-    }
-    let form = Form::Sigma(binder, first.share()?, second.share()?);
-    Term::of(alloc, form, size, depth, loose)
-}
-
-/// The pair of `m` and `n`, at the type of pairs over `a` and `b`.
-pub fn pair(
-    alloc: Global,
-    binder: Binder,
-    a: &Term,
-    b: &Term,
-    m: &Term,
-    n: &Term,
-) -> Result<Term, TermFault>
-    ensures { Makes (Pair binder a.now b.now m.now n.now) result }
-{
-    let size = a.size() + b.size() + m.size() + n.size() + 1;
-    let of_type = a.depth().max(b.depth());
-    let depth = of_type.max(m.depth().max(n.depth())) + 1;
-    let in_type = a.loose().max(b.loose().saturating_sub(1));
-    let loose = in_type.max(m.loose().max(n.loose()));
-    if size > MAX_SIZE || depth > MAX_DEPTH {
-        return Err(TermFault::TooLarge { size, depth });
-    }
-    let form = Form::Pair(binder, a.share()?, b.share()?, m.share()?, n.share()?);
-    Term::of(alloc, form, size, depth, loose)
-}
-
-/// The first part of a pair.
-pub fn fst(alloc: Global, of: &Term) -> Result<Term, TermFault>
-    ensures { Makes (Fst of.now) result }
-{
-    let size = of.size() + 1;
-    let depth = of.depth() + 1;
-    if size > MAX_SIZE || depth > MAX_DEPTH {
-        return Err(TermFault::TooLarge { size, depth });
-    }
-    let form = Form::Fst(of.share()?);
-    Term::of(alloc, form, size, depth, of.loose())
-}
-
-/// The second part of a pair.
-pub fn snd(alloc: Global, of: &Term) -> Result<Term, TermFault>
-    ensures { Makes (Snd of.now) result }
-{
-    let size = of.size() + 1;
-    let depth = of.depth() + 1;
-    if size > MAX_SIZE || depth > MAX_DEPTH {
-        return Err(TermFault::TooLarge { size, depth });
-    }
-    let form = Form::Snd(of.share()?);
-    Term::of(alloc, form, size, depth, of.loose())
-}
-
-/// A universe.
-pub fn univ(alloc: Global, level: Level) -> Result<Term, TermFault>
-    ensures { Makes (Univ level) result }
-{
-    Term::of(alloc, Form::Univ(level), 1, 1, 0)
 }
 
 /// The root of a term, with the parts below it.

@@ -1,0 +1,5 @@
+use Rattle.lego_laws.proofs.constants.abstraction.Goals as goal
+use Rattle.lego_laws.proofs.Abstracted.{abstraction}
+
+pub returns : goal.returns
+returns c = abstraction

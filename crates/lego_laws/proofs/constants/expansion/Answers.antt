@@ -1,0 +1,5 @@
+use Rattle.lego_laws.proofs.constants.expansion.Goals as goal
+use Rattle.lego_laws.proofs.ExpansionLaws.{expansion}
+
+pub returns : goal.returns
+returns c = expansion

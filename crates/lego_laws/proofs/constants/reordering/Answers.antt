@@ -1,0 +1,5 @@
+use Rattle.lego_laws.proofs.constants.reordering.Goals as goal
+use Rattle.lego_laws.proofs.Reordered.{reordering}
+
+pub returns : goal.returns
+returns c = reordering

@@ -1,0 +1,4 @@
+pub mod Faults
+pub mod Frames
+pub mod Reduction
+pub mod Nesting

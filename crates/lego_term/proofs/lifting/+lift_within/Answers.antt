@@ -1,0 +1,37 @@
+use Rattle.std.proofs.Common.{rules, ◌∙◌, sym, ◌≤◌, arith}
+use Rattle.lego_term.specs.Trees.{Pi, Lam, App, Sigma, Pair, Fst, Snd, loose}
+use Rattle.lego_term.proofs.LiftLemmas.{lift-low, lift_err}
+use Rattle.lego_term.proofs.lifting.+lift_within.Goals as goal
+
+pub returns-then-loose-from-clause-ok : goal.returns-then-loose-from-clause-ok
+returns-then-loose-from-clause-ok t c =
+    let low : loose c.args.t.now ≤ c.args.from = omega arith in
+    c.in_ok-share.ensures.same ∙ sym (lift-low c.args.from c.args.by c.args.t.now low)
+
+pub returns-in_ok-body-in-Pi-clause-err : goal.returns-in_ok-body-in-Pi-clause-err
+returns-in_ok-body-in-Pi-clause-err t c =
+    lift_err c.args.from c.args.by c.args.t.now (Pi c.in-Pi.binder c.in_ok-domain-in-Pi.domain c.in_ok-body-in-Pi.body) c.pi.result (search rules) c.view.ensures.limits c.pi.ensures
+
+pub returns-in_ok-argument-in-App-clause-err : goal.returns-in_ok-argument-in-App-clause-err
+returns-in_ok-argument-in-App-clause-err t c =
+    lift_err c.args.from c.args.by c.args.t.now (App c.in-App.mark c.in_ok-function-in-App.function c.in_ok-argument-in-App.argument) c.app.result (search rules) c.view.ensures.limits c.app.ensures
+
+pub returns-in_ok-body-in-Lam-clause-err : goal.returns-in_ok-body-in-Lam-clause-err
+returns-in_ok-body-in-Lam-clause-err t c =
+    lift_err c.args.from c.args.by c.args.t.now (Lam c.in-Lam.binder c.in_ok-domain-in-Lam.domain c.in_ok-body-in-Lam.body) c.lam.result (search rules) c.view.ensures.limits c.lam.ensures
+
+pub returns-in_ok-second-in-Sigma-clause-err : goal.returns-in_ok-second-in-Sigma-clause-err
+returns-in_ok-second-in-Sigma-clause-err t c =
+    lift_err c.args.from c.args.by c.args.t.now (Sigma c.in-Sigma.binder c.in_ok-first-in-Sigma.first c.in_ok-second-in-Sigma.second) c.sigma.result (search rules) c.view.ensures.limits c.sigma.ensures
+
+pub returns-in_ok-n-in-Pair-clause-err : goal.returns-in_ok-n-in-Pair-clause-err
+returns-in_ok-n-in-Pair-clause-err t c =
+    lift_err c.args.from c.args.by c.args.t.now (Pair c.in-Pair.binder c.in_ok-a-in-Pair.a c.in_ok-b-in-Pair.b c.in_ok-m-in-Pair.m c.in_ok-n-in-Pair.n) c.pair.result (search rules) c.view.ensures.limits c.pair.ensures
+
+pub returns-in_ok-of-in-Fst-clause-err : goal.returns-in_ok-of-in-Fst-clause-err
+returns-in_ok-of-in-Fst-clause-err t c =
+    lift_err c.args.from c.args.by c.args.t.now (Fst c.in_ok-of-in-Fst.of) c.fst.result (search rules) c.view.ensures.limits c.fst.ensures
+
+pub returns-in_ok-of-in-Snd-clause-err : goal.returns-in_ok-of-in-Snd-clause-err
+returns-in_ok-of-in-Snd-clause-err t c =
+    lift_err c.args.from c.args.by c.args.t.now (Snd c.in_ok-of-in-Snd.of) c.snd.result (search rules) c.view.ensures.limits c.snd.ensures

@@ -1,0 +1,6 @@
+use Rattle.lego_term.specs.Trees.{instantiate}
+use Rattle.lego_term.proofs.substitution.subst.Goals as goal
+
+pub returns : goal.returns
+unfolding instantiate
+returns c = c.put_at.ensures
