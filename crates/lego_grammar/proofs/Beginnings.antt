@@ -1,9 +1,9 @@
 -- Some command begins with tokens exactly where the machine goes over them.
-use Rattle.std.proofs.Common.{◌≡◌, ◌⊎◌, inl, inr, ℕ, suc, List, [], ◌∷◌, ◌++◌, Bool, false, Option, Some, None, slice_get, map, refl, sym, ap, ◌∙◌, subst, append_assoc}
+use Rattle.std.proofs.Common.{◌≡◌, ◌⊎◌, inl, inr, ℕ, suc, List, [], ◌∷◌, ◌++◌, Bool, false, Option, Some, None, slice_get, map, take, refl, sym, ap, ◌∙◌, subst, append_assoc}
 use Rattle.std.proofs.lemmas.List.{append-nil}
 use Rattle.lego_lexer.specs.Tokens.{Lexeme, Name, Number, OfWord, OfSymbol}
 use Rattle.lego_grammar.specs.Written.{Deed}
-use Rattle.lego_grammar.specs.Grammar.{Names, Nested, Item, item, GoesOn}
+use Rattle.lego_grammar.specs.Grammar.{Names, Nested, Item, item, GoesOn, IsUnexpected}
 use Rattle.lego_grammar.specs.Machine.{Frame, Mode, Start, Between, State, state, move}
 use Rattle.lego_grammar.proofs.Transitions.{class, Fits, Runs, runs_on}
 use Rattle.lego_grammar.proofs.Complete.{start_of, complete_command}
@@ -42,7 +42,7 @@ abbrev text_of : Lexeme → List ℕ
 text_of (Name text) = text
 text_of _ = []
 
-abbrev texts : List Item → Names
+abbrev pub texts : List Item → Names
 texts [] = [] ∷ []
 texts (i ∷ is) = text_of i.lexeme ∷ texts is
 
@@ -74,7 +74,7 @@ goes_none [] = refl
 goes_none (i ∷ is) = refl
 
 -- a run over the tokens, where the machine goes over them
-record Ran (names : Names) (m : Mode) (fs : List Frame) (is : List Item) (st : State) : Type 0 where
+pub record Ran (names : Names) (m : Mode) (fs : List Frame) (is : List Item) (st : State) : Type 0 where
   nested : List Nested
   same : map item nested ≡ is
   runs : Runs names false m fs nested st.mode st.frames
@@ -92,7 +92,7 @@ ran_first names i is m fs h more (Some s) q e =
       runs = Runs.go (fits names i.lexeme h) y.1 r.runs;
     }
 
-ran : (names : Names) (is : List Item) (m : Mode) (fs : List Frame) {st : State} → Known names is → goes is (Some (state m fs)) ≡ Some st → Ran names m fs is st
+pub ran : (names : Names) (is : List Item) (m : Mode) (fs : List Frame) {st : State} → Known names is → goes is (Some (state m fs)) ≡ Some st → Ran names m fs is st
 ran names [] m fs {st} h e = record { nested = []; same = refl; runs = subst (λ (o : Option State). Runs names false m fs [] (mode_in o) (frames_in o)) e Runs.stay }
   where
     mode_in : Option State → Mode
@@ -106,7 +106,7 @@ ran names (i ∷ is) m fs h e =
     ran_first names i is m fs h.0 (λ s q. ran names is s.mode s.frames h.1 q) (move false (class i.lexeme) i.place 0 (state m fs)) refl e
 
 -- what holds behind a run
-holds : (names : Names) (b : Bool) {m m' : Mode} {fs fs' : List Frame} {ts : List Nested} (all : List Nested) → Holds names b m fs all → Runs names b m fs ts m' fs' → Holds names b m' fs' (all ++ ts)
+pub holds : (names : Names) (b : Bool) {m m' : Mode} {fs fs' : List Frame} {ts : List Nested} (all : List Nested) → Holds names b m fs all → Runs names b m fs ts m' fs' → Holds names b m' fs' (all ++ ts)
 holds names b {m} {fs = fs} all h Runs.stay = subst (λ l. Holds names b m fs l) (sym (append-nil all)) h
 holds names b {m' = m'} {fs' = fs'} all h (Runs.go {t = t} {ts = ts} f x r) =
     subst (λ l. Holds names b m' fs' l) (append_assoc all (t ∷ []) ts) (holds names b (all ++ t ∷ []) (step names b all h f x) r)
@@ -116,7 +116,7 @@ map-both [] us = refl
 map-both (t ∷ ts) us = ap (λ l. item t ∷ l) (map-both ts us)
 
 -- some command begins with what the machine goes over from a start
-goes_on : (is : List Item) (m : Mode) {st : State} → Holds (texts is) false m [] [] → goes is (Some (state m [])) ≡ Some st → GoesOn is
+pub goes_on : (is : List Item) (m : Mode) {st : State} → Holds (texts is) false m [] [] → goes is (Some (state m [])) ≡ Some st → GoesOn is
 goes_on is m {st} h e =
     let r = ran (texts is) is m [] (known_texts is) e in
     let k = some_text is in
@@ -125,7 +125,7 @@ goes_on is m {st} h e =
     (texts is, map item w.tokens, y.0, record { nested = r.nested ++ w.tokens; same = map-both r.nested w.tokens ∙ ap (λ l. l ++ map item w.tokens) r.same; reads = y.1 })
 
 -- the machine goes over what a run goes over
-gone : (names : Names) {m m' : Mode} {fs fs' : List Frame} {ts : List Nested} → Runs names false m fs ts m' fs' → goes (map item ts) (Some (state m fs)) ≡ Some (state m' fs')
+pub gone : (names : Names) {m m' : Mode} {fs fs' : List Frame} {ts : List Nested} → Runs names false m fs ts m' fs' → goes (map item ts) (Some (state m fs)) ≡ Some (state m' fs')
 gone names Runs.stay = refl
 gone names {m} {fs = fs} (Runs.go {t = t} {ts = ts} {n = n} f x r) =
     let zero_number : n ≡ 0 = fits_zero names t.lexeme f in
@@ -138,7 +138,7 @@ goes_front [] js (Some s) e h = none_some (sym h)
 goes_front (i ∷ is) js (Some s) e h = goes_front is js (move false (class i.lexeme) i.place 0 s) e h
 
 -- a start of the machine at which no beginning is gone over
-stops : (is : List Item) → goes is (Some (state Start [])) ≡ None → goes is (Some (state (Between []) [])) ≡ None → GoesOn is → ⊥
+pub stops : (is : List Item) → goes is (Some (state Start [])) ≡ None → goes is (Some (state (Between []) [])) ≡ None → GoesOn is → ⊥
 stops is h k g = go g.2.deed (ap (λ l. goes l (Some (state (start_of g.2.deed) []))) (sym g.3.same) ∙ gone g.0 (complete_command g.0 false g.3.reads))
   where
     go : (d : Deed) {st : State} → goes (is ++ g.1) (Some (state (start_of d) [])) ≡ Some st → ⊥
@@ -155,3 +155,14 @@ decided is = first (goes is (Some (state Start []))) refl
     first : (o : Option State) → goes is (Some (state Start [])) ≡ o → GoesOn is ⊎ (GoesOn is → ⊥)
     first (Some st) e = inl (goes_on is Start refl e)
     first None e = second (goes is (Some (state (Between []) []))) refl e
+
+-- a context command may begin with nothing
+pub no_bindings : (names : Names) (b : Bool) → Holds names b (Between []) [] []
+no_bindings names b = record { items = []; kept = refl; reads = inr (refl, refl) }
+
+-- The first token at which neither machine goes on is the first one without a reading.
+pub unexpected_at : (tokens : List Item) (n : ℕ) (m : Mode) {st : State} → Holds (texts (take n tokens)) false m [] []
+    → goes (take n tokens) (Some (state m [])) ≡ Some st
+    → goes (take (suc n) tokens) (Some (state Start [])) ≡ None → goes (take (suc n) tokens) (Some (state (Between []) [])) ≡ None
+    → IsUnexpected tokens n
+unexpected_at tokens n m h e f g = record { before = goes_on (take n tokens) m h e; behind = stops (take (suc n) tokens) f g }
