@@ -1,0 +1,11 @@
+use Rattle.std.proofs.Common.{◌≡◌, ◌++◌, codes, sym, ap, ◌∙◌, append_assoc}
+use Rattle.std.specs.List.{flat_map}
+use Rattle.std.specs.Option.{option_copied}
+use Rattle.lego_session.specs.Texts.{entry_command}
+use Rattle.lego_session.proofs.TextLemmas.{next_text, more_text}
+use Rattle.lego_session.proofs.text.development.Goals as goal
+
+pub loop-at-preserved : goal.loop-at-preserved
+loop-at-preserved c =
+    more_text (codes "Explicit;\n") (entry_command c.args.names.now c.args.context.now) c.args.context.now c.loop-at.at c.in-Some.entry.now c.loop-at.text.items c.push_command.new.text.items
+    (sym c.in-Some.ensures) c.loop-at.invariant c.in_ok-push_command.ensures
