@@ -8,3 +8,4 @@ pub mod Unique
 pub mod Beginnings
 pub mod Refusals
 pub mod NumberingLemmas
+pub mod RangesOfNames

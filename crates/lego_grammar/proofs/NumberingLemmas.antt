@@ -1,12 +1,10 @@
 -- How numbers are given to names, token by token.
-use Rattle.std.proofs.Common.{◌≡◌, ℕ, zero, suc, pred, ◌+◌, ◌<◌, ◌≤◌, List, [], ◌∷◌, ◌++◌, ◌||◌, Bool, true, false, map, length, slice_get, get_or, position, Some, ◌⊎◌, inl, inr, refl, sym, ap, ◌∙◌, subst, append_assoc, arith, length-append}
-use Rattle.std.specs.Prelude.{All, Contains, slice_range}
-use Rattle.std.specs.List.{list_any}
-use Rattle.std.specs.Option.{unwrap_or}
+use Rattle.std.proofs.Common.{◌≡◌, ℕ, zero, suc, pred, ◌+◌, ◌<◌, List, [], ◌∷◌, ◌++◌, ◌||◌, Bool, true, false, map, length, slice_get, get_or, position, Some, ◌⊎◌, inl, inr, refl, sym, ap, ◌∙◌, subst, append_assoc, arith, length-append}
+use Rattle.std.specs.Prelude.{Contains, slice_range}
 use Rattle.std.proofs.lemmas.List.{get_or-map, append-nil}
-use Rattle.std.proofs.lemmas.List.Elements.{All-append, Contains-append_left, Contains-append_right, Contains-append_cases, Contains-push, Contains-get_or}
+use Rattle.std.proofs.lemmas.List.Elements.{All-append, Contains-append_cases, Contains-get_or}
 use Rattle.std.proofs.lemmas.List.Quantifiers.{position-Some}
-use Rattle.std.proofs.lemmas.Option.{slice_get-get_or, slice_get_within, get_or_from_slice_get}
+use Rattle.std.proofs.lemmas.Option.{slice_get-get_or, slice_get_within}
 use Rattle.std.proofs.lemmas.Cmp.{nat_list_eq_equiv}
 use Rattle.std.specs.Cmp.Lexicographic.{bytes_decides}
 use Rattle.lego_base.specs.Names.{same_text, has_name, interned, AreDistinct}
@@ -19,7 +17,7 @@ use Rattle.lego_lexer.specs.declared.token.TokenKind.TheVariants as Kind
 use Rattle.std.proofs.lemmas.Bool.{cases_eq}
 use Rattle.lego_grammar.specs.Grammar.{Names, Item, item_of}
 use Rattle.lego_grammar.specs.Parsing.{GrowsBy, AreTooMany, Differ}
-use Rattle.lego_grammar.specs.Numbering.{HasNumber, AreNumbered, IsNumberingFault}
+use Rattle.lego_grammar.specs.Numbering.{HasNumber, IsNumberingFault}
 use Rattle.lego_grammar.specs.declared.fault.ParseFault.{ParseFault}
 use Rattle.lego_grammar.specs.declared.fault.ParseFault.TheVariants as Fault
 

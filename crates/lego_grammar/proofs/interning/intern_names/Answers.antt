@@ -1,4 +1,4 @@
-use Rattle.std.proofs.Common.{◌≡◌, map, sym, arith}
+use Rattle.std.proofs.Common.{map, arith}
 use Rattle.std.proofs.lemmas.Result.{err_from_is_err_and}
 use Rattle.lego_grammar.specs.Grammar.{item_of}
 use Rattle.lego_grammar.specs.Numbering.{IsNumberingFault}

@@ -1,4 +1,4 @@
-use Rattle.std.proofs.Common.{◌≡◌, ap, subst, Err}
+use Rattle.std.proofs.Common.{ap, subst, Err}
 use Rattle.lego_base.specs.Names.{AreDistinct}
 use Rattle.lego_grammar.proofs.NumberingLemmas.{token_found, token_too_many}
 use Rattle.lego_grammar.proofs.interning.intern_token.Goals as goal
