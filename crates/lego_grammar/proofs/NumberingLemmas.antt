@@ -6,6 +6,7 @@ use Rattle.std.proofs.lemmas.List.Elements.{All-append, Contains-append_cases, C
 use Rattle.std.proofs.lemmas.List.Quantifiers.{position-Some}
 use Rattle.std.proofs.lemmas.Option.{slice_get-get_or, slice_get_within}
 use Rattle.std.proofs.lemmas.Cmp.{nat_list_eq_equiv}
+use Rattle.std.proofs.lemmas.Map.Keys.{any_passes_from_place}
 use Rattle.std.specs.Cmp.Lexicographic.{bytes_decides}
 use Rattle.lego_base.specs.Names.{same_text, has_name, interned, AreDistinct}
 use Rattle.lego_base.proofs.NamesLemmas.{true_is_false}
@@ -200,3 +201,9 @@ module _ (bytes : List ℕ) (tokens : List Token) (i : ℕ) (t : Token) (lt : i 
 
   pub item_among : Contains (map (item_of bytes) tokens) (item_of bytes (get_or tokens i t))
   item_among = (i, omega (arith, lt, long_as bytes tokens), item_at (item_of bytes (get_or tokens i t)))
+
+-- a text that has a number is interned already
+pub interned_already : (names : Names) (text : List ℕ) → HasNumber names (Name text) → interned names text ≡ names
+interned_already names text (n, is) =
+    let there : has_name names text ≡ true = any_passes_from_place (same_text text) names n text is (nat_list_eq_equiv.refl text) in
+    rw there refl

@@ -1,5 +1,6 @@
 -- What the parser answers.
 use Rattle.std.specs.Prelude.{◌≡◌, ℕ, ◌<◌, ◌≤◌, List, [], ◌∷◌, ◌++◌, map, length, slice_get, Some, ◌⊎◌, All, Contains}
+use Rattle.lego_base.specs.declared.place.Place.{Place}
 use Rattle.lego_lexer.specs.Tokens.{Name}
 use Rattle.lego_grammar.specs.Grammar.{Names, Item, Parses, IsUnexpected, IsTooDeep}
 use Rattle.lego_grammar.specs.Written.{Order}
