@@ -12,7 +12,11 @@ use lego_lexer::{Token, TokenKind};
 
 /// Gives a number to the text of each name, in the order of the tokens. A refusal keeps the
 /// numbers that were given.
-fn intern_names(tokens: &[Token], text: &[u8], names: &mut Names) -> Result<(), ParseFault>
+pub(crate) fn intern_names(
+    tokens: &[Token],
+    text: &[u8],
+    names: &mut Names,
+) -> Result<(), ParseFault>
     requires ranges { NamesHaveRanges text.now tokens.now }
     ensures grown { GrowsBy (map (item_of text.now) tokens.now) names.old names.new }
     ensures held { OnOk result (AreNumbered names.new (map (item_of text.now) tokens.now)) }
