@@ -3,6 +3,7 @@
 
 mod command;
 mod fault;
+mod interning;
 mod laws;
 mod surface;
 
