@@ -5,6 +5,7 @@ mod command;
 mod fault;
 mod interning;
 mod laws;
+mod parser;
 mod surface;
 
 ghost use Rattle.lego_grammar.specs.Grammar.{IsTooDeep};
@@ -15,4 +16,5 @@ pub use fault::ParseFault;
 pub use laws::{
     beginnings_are_decided, kinds_are_one, nestings_are_one, readings_are_one, refusals_are_one,
 };
+pub use parser::parse;
 pub use surface::{Kind, Part, Surface};
