@@ -7,3 +7,5 @@ pub mod Moving
 pub mod Unique
 pub mod Beginnings
 pub mod Refusals
+pub mod Depths
+pub mod Sides
