@@ -22,7 +22,7 @@ abbrev pub Shallow : Mode → List Frame → List Item → ℕ → Type 0
 Shallow m fs is n = (j : ℕ) (s : State) → j < n → goes (take j is) (Some (state m fs)) ≡ Some s → level s ≤ 500
 
 -- a state within the limit, or the first one above it
-abbrev Entry : Mode → List Frame → Type 0
+abbrev pub Entry : Mode → List Frame → Type 0
 Entry m fs = (level (state m fs) ≤ 500) ⊎ ((level (state m fs) ≡ 501) × Opens m)
 
 -- token i is the first of nesting 501

@@ -9,3 +9,5 @@ pub mod Beginnings
 pub mod Refusals
 pub mod Depths
 pub mod Sides
+pub mod Scans
+pub mod Deciding
