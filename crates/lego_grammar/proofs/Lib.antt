@@ -10,4 +10,5 @@ pub mod Refusals
 pub mod Depths
 pub mod Sides
 pub mod Scans
+pub mod Prevailing
 pub mod Deciding
