@@ -20,6 +20,7 @@ use Rattle.lego_grammar.proofs.Refusals.{one_unexpected}
 use Rattle.lego_grammar.proofs.Beginnings.{goes, goes_none, gone, map-both, unexpected_at, texts}
 use Rattle.lego_grammar.proofs.Depths.{Shallow, DeepAt, Entry, the, deep_at, low_at, all_low}
 use Rattle.lego_grammar.proofs.Scans.{Begin, other, context, holds_at, kind, Finished, finished, begun, goes_append, over, begins_not, none_on, no_move}
+use Rattle.lego_grammar.proofs.Prevailing.{Prevailing}
 
 -- A start is within the limit.
 entry : {m : Mode} → Begin m → Entry m []
@@ -77,3 +78,77 @@ pub refuse_read : (held : Names) (tokens : List Item) {m : Mode} {d : Deed} {fs 
     → slice_get tokens i ≡ Some t → goes (take i tokens) (Some (state m [])) ≡ Some s → 500 < level s → Shallow m [] tokens i
     → IsNoCommand held tokens (Fault.TooDeep t.place)
 refuse_read held tokens i t begin e l g h sh = (i, t, l, refl, read_too_deep tokens i begin e (slice_get_within tokens i t l) g h sh)
+
+-- fronts of lists
+take_front : (j n : ℕ) (ts xs : List Item) → j ≤ n → n ≤ length ts → take j (take n ts ++ xs) ≡ take j ts
+take_front zero n ts xs h l = refl
+take_front (suc j) zero ts xs h l = absurd (omega (arith, h))
+take_front (suc j) (suc n) [] xs h l = absurd (omega (arith, l))
+take_front (suc j) (suc n) (t ∷ ts) xs h l = ap (λ k. t ∷ k) (take_front j n ts xs (omega (arith, h)) (omega (arith, l)))
+
+item_tail : {x y : Item} {xs ys : List Item} → ◌≡◌ {A = List Item} (x ∷ xs) (y ∷ ys) → xs ≡ ys
+item_tail e = ap tail e
+  where
+    tail : List Item → List Item
+    tail [] = []
+    tail (z ∷ zs) = zs
+
+count : (ns : List Nested) (n : ℕ) (ts : List Item) → map item ns ≡ take n ts → n ≤ length ts → length ns ≡ n
+count [] zero ts e l = refl
+count [] (suc n) [] e l = absurd (omega (arith, l))
+count [] (suc n) (t ∷ ts) e l = cc
+count (x ∷ ns) zero ts e l = cc
+count (x ∷ ns) (suc n) [] e l = cc
+count (x ∷ ns) (suc n) (t ∷ ts) e l = ap suc (count ns n ts (item_tail e) (omega (arith, l)))
+
+get_front : (xs ys : List Nested) (n : ℕ) → n < length xs → slice_get (xs ++ ys) n ≡ slice_get xs n
+get_front [] ys n h = absurd (omega (arith, h))
+get_front (x ∷ xs) ys zero h = refl
+get_front (x ∷ xs) ys (suc n) h = get_front xs ys n (omega (arith, h))
+
+-- the tokens of a command that begins with the first n tokens, followed up to token n
+same_fronts : (tokens : List Item) (n : ℕ) (nested rest : List Nested) → map item nested ≡ take n tokens → n ≤ length tokens → (j : ℕ) → j ≤ n
+    → take j (map item (nested ++ rest)) ≡ take j tokens
+same_fronts tokens n nested rest e l j h =
+    ap (λ is. take j is) (map-both nested rest ∙ ap (λ is. is ++ map item rest) e) ∙ take_front j n tokens (map item rest) h l
+
+as_shallow : (tokens : List Item) (n k : ℕ) (nested rest : List Nested) {m : Mode} → map item nested ≡ take n tokens → n ≤ length tokens → k ≤ suc n
+    → Shallow m [] tokens k → Shallow m [] (map item (nested ++ rest)) k
+as_shallow tokens n k nested rest {m} e l h sh =
+    λ j s q g. sh j s q (ap (λ is. goes is (Some (state m []))) (sym (same_fronts tokens n nested rest e l j (omega (arith, h, q)))) ∙ g)
+
+-- a command that hasn't ended goes on with a token
+goes_with : {names : Names} {m : Mode} {fs gs : List Frame} {ts : List Nested} {deed : Deed} → Runs names false m fs ts (Done deed) gs → ((d : Deed) → m ≡ Done d → ⊥)
+    → (t : Nested) × (us : List Nested) × (ts ≡ t ∷ us)
+goes_with {deed = deed} Runs.stay h = absurd (h deed refl)
+goes_with (Runs.go {t = t} {ts = ts} f x r) h = (t, ts, refl)
+
+-- UNREAD, TOO DEEP. The code hands: which scan prevails, by one of the lemmas of `Prevailing`; its state at the stop is not `Done`;
+-- i is at most n, and before token i, for the first time, that scan's state was more than 500 levels deep. Token i may be token n.
+pub unread_too_deep : (tokens : List Item) (n i : ℕ) (m : Mode) {st s : State} → Prevailing tokens n m st → ((d : Deed) → st.mode ≡ Done d → ⊥) → n < length tokens → i ≤ n
+    → goes (take i tokens) (Some (state m [])) ≡ Some s → 500 < level s → Shallow m [] tokens i → IsTooDeep tokens i
+unread_too_deep tokens n i m {st} {s} p on l h g deep sh =
+    let f = finished (take n tokens) p.begin p.there in
+    let w = goes_with f.behind on in
+    let next = w.0 in
+    let more = w.1 in
+    let reads : ReadsCommand f.names (f.nested ++ next ∷ more) f.command = subst (λ r. ReadsCommand f.names (f.nested ++ r) f.command) w.2 f.reads in
+    let n_is : length f.nested ≡ n = count f.nested n tokens f.same (omega (arith, l)) in
+    let at : (f.nested ++ next ∷ []) ++ more ≡ f.nested ++ next ∷ more = append_assoc f.nested (next ∷ []) more in
+    let front_size = length-append f.nested (next ∷ []) in
+    let all_size = length-append f.nested f.rest in
+    let rest_size : length f.rest ≡ suc (length more) = ap length w.2 in
+    let d = deep_at f.names i (runs_on f.first f.behind) (entry p.begin) (omega (arith, h, n_is, all_size, rest_size))
+    (ap (λ is. goes is (Some (state m []))) (same_fronts tokens n f.nested f.rest f.same (omega (arith, l)) i h) ∙ g) deep
+    (as_shallow tokens n i f.nested f.rest f.same (omega (arith, l)) (omega (arith, h)) sh) in
+    let whole : f.nested ++ f.rest ≡ (f.nested ++ next ∷ []) ++ more = ap (λ r. f.nested ++ r) w.2 ∙ sym at in
+    let seen = λ (j : ℕ) (q : j ≤ n). sym (get_front (f.nested ++ next ∷ []) more j (omega (arith, q, n_is, front_size))) ∙ ap (λ r. slice_get r j) (sym whole) in
+    record {
+      nested = f.nested ++ next ∷ [];
+      so = NestedSo.unread {names = f.names} f.nested more next (subst (λ k. IsUnexpected tokens k) (sym n_is) p.unexpected) (f.same ∙ ap (λ k. take k tokens) (sym n_is))
+      (subst (λ k. Prevails (take k tokens) f.command.deed) (sym n_is) (p.prevails f.command.deed f.start)) reads;
+      token = d.token;
+      there = seen i h ∙ d.there;
+      deep = d.deep;
+      first = λ j t k q. d.first j t k (sym (seen j (omega (arith, k, h))) ∙ q);
+    }
