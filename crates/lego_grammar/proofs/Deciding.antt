@@ -152,3 +152,84 @@ unread_too_deep tokens n i m {st} {s} p on l h g deep sh =
       deep = d.deep;
       first = λ j t k q. d.first j t k (sym (seen j (omega (arith, k, h))) ∙ q);
     }
+
+-- where tokens stop, what else is nested is nested within a command that begins with the first n tokens
+record Within (tokens : List Item) (n : ℕ) (m : Mode) (st : State) (i : ℕ) : Type 0 where
+  names : Names
+  nested : List Nested
+  next : Nested
+  more : List Nested
+  token : Nested
+  gs : List Frame
+  deed : Deed
+  size : length nested ≡ n
+  same : map item nested ≡ take n tokens
+  runs : Runs names false m [] (nested ++ next ∷ more) (Done deed) gs
+  below : i < suc n
+  there : slice_get (nested ++ next ∷ more) i ≡ Some token
+  deep : token.nesting ≡ 501
+
+within : (tokens : List Item) (n i : ℕ) (m : Mode) {st : State} → Prevailing tokens n m st → IsTooDeep tokens i → Within tokens n m st i
+within tokens n i m {st} p x = go x.nested x.so x.there
+  where
+    go : (ns : List Nested) → NestedSo tokens ns → slice_get ns i ≡ Some x.token → Within tokens n m st i
+    go ns (NestedSo.read {names} {c = c} e r) g =
+        absurd (p.unexpected.behind (names, drop (suc n) tokens, c, record { nested = ns; same = e ∙ sym (take-append-drop (suc n) tokens); reads = r }))
+    go ns (NestedSo.unread {names} nested more next {c} u e v r) g =
+        let size : length nested ≡ n = one_unexpected tokens (length nested) n u p.unexpected in
+        let same : map item nested ≡ take n tokens = e ∙ ap (λ k. take k tokens) size in
+        let parses : Parses names (take n tokens ++ map item (next ∷ more)) c =
+            record { nested = nested ++ next ∷ more; same = map-both nested (next ∷ more) ∙ ap (λ l. l ++ map item (next ∷ more)) same; reads = r } in
+        let start : start_of c.deed ≡ m = p.only names (map item (next ∷ more)) c parses (subst (λ k. Prevails (take k tokens) c.deed) size v) in
+        let in_front : i < length (nested ++ next ∷ []) = slice_get_within (nested ++ next ∷ []) i x.token g in
+        let front_size = length-append nested (next ∷ []) in
+        record {
+          names = names;
+          nested = nested;
+          next = next;
+          more = more;
+          token = x.token;
+          gs = [];
+          deed = kept_deed false c.deed;
+          size = size;
+          same = same;
+          runs = subst (λ k. Runs names false k [] (nested ++ next ∷ more) (Done (kept_deed false c.deed)) []) start (complete_command names false r);
+          below = omega (arith, in_front, front_size, size);
+          there = ap (λ l. slice_get l i) (sym (append_assoc nested (next ∷ []) more)) ∙ (get_front (nested ++ next ∷ []) more i in_front ∙ g);
+          deep = x.deep;
+        }
+
+-- UNREAD, NOT TOO DEEP. The code hands: which scan prevails, and that this scan's state was at most 500 levels deep before each
+-- token up to token n, at which it stopped.
+pub unread_shallow : (tokens : List Item) (n i : ℕ) (m : Mode) {st : State} → Prevailing tokens n m st → n < length tokens → Shallow m [] tokens (suc n) → IsTooDeep tokens i → ⊥
+unread_shallow tokens n i m p l sh x =
+    let w = within tokens n i m p x in
+    let low = low_at w.names (suc n) i w.token w.runs (as_shallow tokens n (suc n) w.nested (w.next ∷ w.more) w.same (omega (arith, l)) (omega arith) sh) w.below w.there in
+    let deep = w.deep in omega (arith, low, deep)
+
+-- BEHIND THE END. The code hands: the scan that prevails had ended in `Done` where it stopped: no command goes on there, so no
+-- nesting is told of these tokens, and none of them is too deep, whatever the states were.
+pub unread_behind : (tokens : List Item) (n i : ℕ) (m : Mode) {st : State} (d : Deed) → Prevailing tokens n m st → st.mode ≡ Done d → IsTooDeep tokens i → ⊥
+unread_behind tokens n i m {st} d p e x =
+    let w = within tokens n i m p x in
+    let y = split w.nested w.runs in
+    let here : Some (state y.0 y.1) ≡ Some st = sym (gone w.names y.2) ∙ (ap (λ is. goes is (Some (state m []))) w.same ∙ p.there) in
+    let mode : y.0 ≡ st.mode = ap (λ (s : State). s.mode) (the here) in
+    first y.3 (mode ∙ e)
+  where
+    first : {names : Names} {m1 m2 : Mode} {f1 f2 : List Frame} {t : Nested} {ts : List Nested} → Runs names false m1 f1 (t ∷ ts) m2 f2 → m1 ≡ Done d → ⊥
+    first (Runs.go f x r) q = no_move d x q
+
+-- The refusals, as `parse` gives them: the code hands besides the token that it refuses.
+pub refuse_unread : (held : Names) (tokens : List Item) (n : ℕ) (m : Mode) (t : Item) {st : State} → Prevailing tokens n m st → slice_get tokens n ≡ Some t
+    → Shallow m [] tokens (suc n) ⊎ ((d : Deed) × (st.mode ≡ Done d)) → IsNoCommand held tokens (Fault.Unexpected t.place)
+refuse_unread held tokens n m t {st} p g h = (n, t, g, refl, p.unexpected, none h)
+  where
+    none : Shallow m [] tokens (suc n) ⊎ ((d : Deed) × (st.mode ≡ Done d)) → (i : ℕ) → IsTooDeep tokens i → ⊥
+    none (inl sh) i x = unread_shallow tokens n i m p (slice_get_within tokens n t g) sh x
+    none (inr e) i x = unread_behind tokens n i m e.0 p e.1 x
+
+pub refuse_deep : (held : Names) (tokens : List Item) (n i : ℕ) (m : Mode) (t : Item) {st s : State} → Prevailing tokens n m st → ((d : Deed) → st.mode ≡ Done d → ⊥) → n < length tokens → i ≤ n
+    → slice_get tokens i ≡ Some t → goes (take i tokens) (Some (state m [])) ≡ Some s → 500 < level s → Shallow m [] tokens i
+    → IsNoCommand held tokens (Fault.TooDeep t.place)
+refuse_deep held tokens n i m t p on l h g e deep sh = (i, t, g, refl, unread_too_deep tokens n i m p on l h e deep sh)
