@@ -12,3 +12,4 @@ pub mod Sides
 pub mod Scans
 pub mod Prevailing
 pub mod Deciding
+pub mod Scanning
