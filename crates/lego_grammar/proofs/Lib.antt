@@ -13,3 +13,4 @@ pub mod Scans
 pub mod Prevailing
 pub mod Deciding
 pub mod Scanning
+pub mod Balance

@@ -34,14 +34,14 @@ less n = omega arith
 not_start : {A : Type 0} → Start ≡ Between [] → A
 not_start e = cc
 
-begins_context : (d : Deed) → start_of d ≡ Between [] → IsContext d
+pub begins_context : (d : Deed) → start_of d ≡ Between [] → IsContext d
 begins_context d e = pick (kind d)
   where
     pick : (IsContext d × (start_of d ≡ Between [])) ⊎ ((IsContext d → ⊥) × (start_of d ≡ Start)) → IsContext d
     pick (inl h) = h.0
     pick (inr h) = not_start (sym h.1 ∙ e)
 
-begins_other : (d : Deed) → start_of d ≡ Start → IsContext d → ⊥
+pub begins_other : (d : Deed) → start_of d ≡ Start → IsContext d → ⊥
 begins_other d e k = pick (kind d)
   where
     pick : (IsContext d × (start_of d ≡ Between [])) ⊎ ((IsContext d → ⊥) × (start_of d ≡ Start)) → ⊥
