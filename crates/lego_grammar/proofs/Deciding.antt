@@ -28,11 +28,11 @@ entry Begin.other = inl (omega arith)
 entry Begin.context = inl (omega arith)
 
 -- what a scan that ended in `Done` went over
-none_behind : {names : Names} {m : Mode} {fs gs : List Frame} {ts : List Nested} {deed d : Deed} → Runs names false m fs ts (Done deed) gs → m ≡ Done d → ts ≡ []
+pub none_behind : {names : Names} {m : Mode} {fs gs : List Frame} {ts : List Nested} {deed d : Deed} → Runs names false m fs ts (Done deed) gs → m ≡ Done d → ts ≡ []
 none_behind Runs.stay e = refl
 none_behind {d = d} (Runs.go f x r) e = absurd (no_move d x e)
 
-append_nil : (xs ys : List Nested) → ys ≡ [] → xs ++ ys ≡ xs
+pub append_nil : (xs ys : List Nested) → ys ≡ [] → xs ++ ys ≡ xs
 append_nil [] ys e = e
 append_nil (x ∷ xs) ys e = ap (λ l. x ∷ l) (append_nil xs ys e)
 

@@ -14,3 +14,4 @@ pub mod Prevailing
 pub mod Deciding
 pub mod Scanning
 pub mod Balance
+pub mod Apart

@@ -142,7 +142,7 @@ context_inside tokens n {st} {so} e f g h no_end no_end' = record {
     pick d (Prevails.other c x) (inr k) = absurd (x inside)
 
 -- where a `;` has a move, a command ends there
-operand_end : {fs gs : List Frame} {t : Nested} {n : ℕ} {m : Mode} → Operand false fs t n m gs → t.lexeme ≡ OfSymbol Semicolon → ⊥
+pub operand_end : {fs gs : List Frame} {t : Nested} {n : ℕ} {m : Mode} → Operand false fs t n m gs → t.lexeme ≡ OfSymbol Semicolon → ⊥
 operand_end (Operand.binder Lambda) e = cc
 operand_end (Operand.binder Pi) e = cc
 operand_end (Operand.binder Sigma) e = cc

@@ -10,7 +10,7 @@ use Rattle.lego_grammar.proofs.Depths.{Shallow, the}
 none_some : {X : Type 0} {x : X} {A : Type 0} → ◌≡◌ {A = Option X} None (Some x) → A
 none_some e = cc
 
-goes_nil : (o : Option State) → goes [] o ≡ o
+pub goes_nil : (o : Option State) → goes [] o ≡ o
 goes_nil None = refl
 goes_nil (Some s) = refl
 
