@@ -15,3 +15,4 @@ pub mod Deciding
 pub mod Scanning
 pub mod Balance
 pub mod Apart
+pub mod Cases

@@ -149,7 +149,7 @@ operand_end (Operand.binder Sigma) e = cc
 operand_end _ e = cc
 
 -- the mode of a command that has ended
-abbrev Over : Mode → Type 0
+abbrev pub Over : Mode → Type 0
 Over (Done d) = Unit {0}
 Over _ = ⊥
 
@@ -160,7 +160,7 @@ closes_end (Closes.domain {k = Sigma}) e = cc
 closes_end Closes.whole e = tt
 closes_end _ e = cc
 
-ends : {m m' : Mode} {fs gs : List Frame} {t : Nested} {n : ℕ} → Move false m fs t n m' gs → t.lexeme ≡ OfSymbol Semicolon → Over m'
+pub ends : {m m' : Mode} {fs gs : List Frame} {t : Nested} {n : ℕ} → Move false m fs t n m' gs → t.lexeme ≡ OfSymbol Semicolon → Over m'
 ends (Move.want o) e = absurd (operand_end o e)
 ends (Move.level_operand o) e = absurd (operand_end o e)
 ends (Move.apply a o) e = absurd (operand_end o e)
