@@ -1,17 +1,17 @@
 -- Where the scan of contexts has ended a command, the other scan is no more; and where it has gone over nothing.
-use Rattle.std.proofs.Common.{◌≡◌, ◌⊎◌, inl, inr, ℕ, suc, List, [], ◌∷◌, ◌++◌, false, Option, Some, None, map, take, refl, sym, ap, ◌∙◌, subst}
+use Rattle.std.proofs.Common.{◌≡◌, ◌⊎◌, inl, inr, ℕ, List, [], ◌∷◌, ◌++◌, false, Option, Some, None, map, refl, sym, ap, ◌∙◌, subst}
 use Rattle.lego_base.specs.declared.place.Place.{Place}
 use Rattle.lego_lexer.specs.Tokens.{Lexeme, OfSymbol}
 use Rattle.lego_lexer.specs.declared.token.Symbol.TheVariants.{CloseSquare, Semicolon}
 use Rattle.lego_grammar.specs.Written.{Bound, Deed, Order}
-use Rattle.lego_grammar.specs.Grammar.{Names, Nested, Item, item, symbol, ReadsCommand, Parses, IsContext}
+use Rattle.lego_grammar.specs.Grammar.{Names, Nested, Item, item, symbol, ReadsCommand, IsContext}
 use Rattle.lego_grammar.specs.Machine.{Frame, Mode, Start, Want, Between, Done, State, state, move}
-use Rattle.lego_grammar.proofs.Transitions.{class, Move, Runs}
+use Rattle.lego_grammar.proofs.Transitions.{class, Move}
 use Rattle.lego_grammar.proofs.Moving.{move_from}
 use Rattle.lego_grammar.proofs.Unique.{behind_square, context_ends}
-use Rattle.lego_grammar.proofs.Beginnings.{goes, goes_none, ran, texts, known_texts, map-both}
+use Rattle.lego_grammar.proofs.Beginnings.{goes, ran, texts, known_texts, map-both}
 use Rattle.lego_grammar.proofs.Sides.{Elsewhere, run_elsewhere}
-use Rattle.lego_grammar.proofs.Scans.{Begin, context, Finished, finished, goes_append}
+use Rattle.lego_grammar.proofs.Scans.{Begin, finished, goes_append}
 use Rattle.lego_grammar.proofs.Prevailing.{end, begins_context, operand_end}
 use Rattle.lego_grammar.proofs.Deciding.{none_behind, append_nil}
 use Rattle.lego_grammar.proofs.Scanning.{goes_nil}

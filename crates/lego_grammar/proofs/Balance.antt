@@ -1,5 +1,5 @@
 -- The brackets that are open in a state are those of the tokens: so where a context command stands inside a binding, no `;` ends a command.
-use Rattle.std.proofs.Common.{◌≡◌, ◌⊎◌, inl, inr, ℕ, zero, suc, ◌+◌, ◌≤◌, ◌<◌, List, [], ◌∷◌, ◌++◌, Bool, false, Option, Some, None, map, take, refl, sym, ap, ◌∙◌, subst, arith}
+use Rattle.std.proofs.Common.{◌≡◌, ◌⊎◌, inl, inr, ℕ, suc, ◌+◌, ◌≤◌, List, [], ◌∷◌, ◌++◌, Bool, false, Some, None, map, take, refl, ap, ◌∙◌, arith}
 use Rattle.lego_base.specs.declared.place.Place.{Place}
 use Rattle.lego_term.specs.declared.binder.Mark.TheVariants.{Plain, Implicit}
 use Rattle.lego_lexer.specs.Tokens.{Lexeme, OfSymbol}
@@ -8,12 +8,12 @@ use Rattle.lego_lexer.specs.declared.token.Symbol.TheVariants.{OpenSquare, Close
 use Rattle.lego_grammar.specs.declared.surface.Kind.TheVariants.{Lambda, Pi, Sigma}
 use Rattle.lego_grammar.specs.Written.{Written, Deed, Order}
 use Rattle.lego_grammar.specs.Grammar.{Names, Nested, Item, item, Parses, IsContext, EndsInBinding, Prevails}
-use Rattle.lego_grammar.specs.Machine.{Site, InTerm, InContext, Frame, ApplyTo, HashFrom, ArrowFrom, BodyOf, BodyWith, Parens, SecondOf, TypeOf, DomainOf, ValueOf, StatedFor, Whole, Mode, Start, Want, Behind, WantPart, WantGoal, WantLevel, CloseLevel, WantName, BehindName, Between, Done, State, state, settled, summed, closed, wrapped}
+use Rattle.lego_grammar.specs.Machine.{Frame, ApplyTo, HashFrom, ArrowFrom, BodyOf, BodyWith, Whole, Mode, Start, Want, Behind, WantPart, WantGoal, WantLevel, CloseLevel, WantName, BehindName, Between, Done, State, state, settled, summed, closed, wrapped}
 use Rattle.lego_grammar.proofs.Transitions.{Operand, Closes, Move, WaitingWord, Runs}
 use Rattle.lego_grammar.proofs.Complete.{start_of, complete_command}
 use Rattle.lego_grammar.proofs.Beginnings.{goes, texts, unexpected_at}
 use Rattle.lego_grammar.proofs.Sides.{Bound, InBindings, run_in_bindings}
-use Rattle.lego_grammar.proofs.Scans.{Begin, other, context, holds_at, kind, Finished, finished, begun}
+use Rattle.lego_grammar.proofs.Scans.{Begin, holds_at, kind, finished, begun}
 use Rattle.lego_grammar.proofs.Prevailing.{Prevailing, end, begins_context}
 
 abbrev up : Lexeme → ℕ

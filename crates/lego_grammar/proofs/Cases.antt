@@ -9,11 +9,11 @@ use Rattle.lego_grammar.specs.Written.{Bound, Deed}
 use Rattle.lego_grammar.specs.Grammar.{Names, Nested, Item, item, ReadsBindings}
 use Rattle.lego_grammar.specs.Machine.{Frame, Mode, Start, Between, Done, State, state, move}
 use Rattle.lego_grammar.proofs.Complete.{kept_bound}
-use Rattle.lego_grammar.proofs.Sound.{Holds, SomeBindings}
+use Rattle.lego_grammar.proofs.Sound.{Holds}
 use Rattle.lego_grammar.proofs.Moving.{move_from}
-use Rattle.lego_grammar.proofs.Beginnings.{goes, goes_none, ran, texts, known_texts, holds}
+use Rattle.lego_grammar.proofs.Beginnings.{goes, ran, texts, known_texts, holds}
 use Rattle.lego_grammar.proofs.Depths.{the}
-use Rattle.lego_grammar.proofs.Scans.{Begin, context, holds_at, goes_append}
+use Rattle.lego_grammar.proofs.Scans.{Begin, holds_at, goes_append}
 use Rattle.lego_grammar.proofs.Prevailing.{Prevailing, Over, end, ends, context_inside, other_outside}
 use Rattle.lego_grammar.proofs.Scanning.{goes_nil}
 

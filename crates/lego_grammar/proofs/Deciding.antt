@@ -1,25 +1,27 @@
--- What the parser answers, by two scans without trees, one from each start. A scan goes over tokens from a state without frames
--- to the first token without a move; it is followed by `goes`. See `Deciding` below for what the code hands in each case.
-use Rattle.std.proofs.Common.{◌≡◌, ◌⊎◌, inl, inr, ℕ, zero, suc, ◌≤◌, ◌<◌, List, [], ◌∷◌, ◌++◌, false, Option, Some, None, slice_get, map, take, drop, length, refl, sym, ap, ◌∙◌, subst, append_assoc, arith, length-append}
+-- What the parser answers, by two scans without trees, one from each start. A scan is what `goes` says: the state behind tokens,
+-- from `Start` or `Between []` without frames, or none where a token has no move.
+-- A scan that ended in `Done` behind all tokens: `refuse_read` where a state was too deep, else `read_shallow`.
+-- Otherwise let n be the later of the two stops. Which scan prevails (`Prevailing`):
+--   only the scan of contexts came to n: `context_alone`; only the other: `other_alone`;
+--   both, by the mode of the scan of contexts: inside a binding `context_bound`, `Between []` `context_nothing`,
+--   `Between (b :: bs)` `other_behind`, `Done` never, by `not_both`.
+-- Then, of the scan that prevails: in `Done` at its stop, or never too deep up to token n, `refuse_unread`; else `refuse_deep`.
+use Rattle.std.proofs.Common.{◌≡◌, ◌⊎◌, inl, inr, ℕ, zero, suc, ◌≤◌, ◌<◌, List, [], ◌∷◌, ◌++◌, false, Some, slice_get, map, take, drop, length, refl, sym, ap, ◌∙◌, subst, append_assoc, arith, length-append}
 use lib.ListN.{take-append-drop}
 use Rattle.std.specs.Prelude.{All}
 use Rattle.std.proofs.lemmas.Option.{slice_get_within}
-use Rattle.lego_base.specs.declared.place.Place.{Place}
-use Rattle.lego_lexer.specs.Tokens.{OfSymbol}
-use Rattle.lego_lexer.specs.declared.token.TokenKind.TheVariants as Token
-use Rattle.lego_lexer.specs.declared.token.Symbol.TheVariants.{Semicolon}
 use Rattle.lego_grammar.specs.Written.{Deed, Order}
-use Rattle.lego_grammar.specs.Grammar.{Names, Nested, Item, item, ReadsCommand, Parses, GoesOn, IsUnexpected, IsContext, EndsInBinding, Prevails, NestedSo, IsTooDeep}
+use Rattle.lego_grammar.specs.Grammar.{Names, Nested, Item, item, ReadsCommand, Parses, IsUnexpected, Prevails, NestedSo, IsTooDeep}
 use Rattle.lego_grammar.specs.Parsing.{ParsesTo, IsNoCommand}
 use Rattle.lego_grammar.specs.declared.fault.ParseFault.TheVariants as Fault
-use Rattle.lego_grammar.specs.Machine.{Frame, Mode, Start, Between, Done, State, state, move, level}
-use Rattle.lego_grammar.proofs.Transitions.{Move, Runs, runs_on}
+use Rattle.lego_grammar.specs.Machine.{Frame, Mode, Done, State, state, level}
+use Rattle.lego_grammar.proofs.Transitions.{Runs, runs_on}
 use Rattle.lego_grammar.proofs.Complete.{kept_deed, start_of, complete_command}
 use Rattle.lego_grammar.proofs.Unique.{split, one_nesting}
 use Rattle.lego_grammar.proofs.Refusals.{one_unexpected}
-use Rattle.lego_grammar.proofs.Beginnings.{goes, goes_none, gone, map-both, unexpected_at, texts}
-use Rattle.lego_grammar.proofs.Depths.{Shallow, DeepAt, Entry, the, deep_at, low_at, all_low}
-use Rattle.lego_grammar.proofs.Scans.{Begin, other, context, holds_at, kind, Finished, finished, begun, goes_append, over, begins_not, none_on, no_move}
+use Rattle.lego_grammar.proofs.Beginnings.{goes, gone, map-both}
+use Rattle.lego_grammar.proofs.Depths.{Shallow, Entry, the, deep_at, low_at, all_low}
+use Rattle.lego_grammar.proofs.Scans.{Begin, finished, no_move}
 use Rattle.lego_grammar.proofs.Prevailing.{Prevailing}
 
 -- A start is within the limit.

@@ -1,5 +1,5 @@
 -- Which of the two scans says how tokens are nested, where token n is the first one without a reading.
-use Rattle.std.proofs.Common.{◌≡◌, ◌⊎◌, inl, inr, ℕ, zero, suc, ◌≤◌, ◌<◌, List, [], ◌∷◌, ◌++◌, false, Option, Some, None, map, take, length, refl, sym, ap, ◌∙◌, subst, append_assoc, arith}
+use Rattle.std.proofs.Common.{◌≡◌, ◌⊎◌, inl, inr, ℕ, suc, ◌≤◌, List, [], ◌∷◌, ◌++◌, false, Some, None, map, take, refl, sym, ap, ◌∙◌, subst, arith}
 use Rattle.lego_base.specs.declared.place.Place.{Place}
 use Rattle.lego_term.specs.declared.binder.Mark.TheVariants.{Plain, Implicit}
 use Rattle.lego_lexer.specs.Tokens.{OfSymbol}
@@ -9,12 +9,12 @@ use Rattle.lego_grammar.specs.declared.surface.Kind.TheVariants.{Lambda, Pi, Sig
 use Rattle.lego_grammar.specs.Written.{Written, Deed, Order}
 use Rattle.lego_grammar.specs.Grammar.{Names, Nested, Item, item, ReadsCommand, Parses, IsUnexpected, IsContext, EndsInBinding, Prevails}
 use Rattle.lego_grammar.specs.Machine.{Frame, Mode, Start, Between, Done, State, state, move}
-use Rattle.lego_grammar.proofs.Transitions.{Closes, Operand, Move, WaitingWord, Runs, runs_on}
+use Rattle.lego_grammar.proofs.Transitions.{Closes, Operand, Move}
 use Rattle.lego_grammar.proofs.Complete.{start_of}
 use Rattle.lego_grammar.proofs.Sound.{Holds}
 use Rattle.lego_grammar.proofs.Moving.{move_from}
-use Rattle.lego_grammar.proofs.Beginnings.{goes, goes_none, ran, texts, known_texts, holds, unexpected_at}
-use Rattle.lego_grammar.proofs.Scans.{Begin, other, context, holds_at, kind, Finished, finished, begun, goes_append, over, begins_not, none_on}
+use Rattle.lego_grammar.proofs.Beginnings.{goes, ran, texts, known_texts, holds, unexpected_at}
+use Rattle.lego_grammar.proofs.Scans.{Begin, holds_at, kind, finished, begun, goes_append, begins_not, none_on}
 
 -- a `;`
 abbrev pub end : Place → Item

@@ -1,5 +1,5 @@
 -- The steps of a scan, for the loop of the code.
-use Rattle.std.proofs.Common.{◌≡◌, ◌⊎◌, inl, inr, ℕ, zero, suc, ◌≤◌, ◌<◌, List, [], ◌∷◌, ◌++◌, false, Option, Some, None, slice_get, map, take, length, refl, sym, ap, ◌∙◌, subst, arith}
+use Rattle.std.proofs.Common.{◌≡◌, ◌⊎◌, inl, inr, ℕ, zero, suc, ◌≤◌, ◌<◌, List, [], ◌∷◌, false, Option, Some, None, slice_get, take, length, refl, sym, ap, ◌∙◌, arith}
 use Rattle.std.proofs.Math.Nat.{eq-or-lt_of_le}
 use Rattle.lego_grammar.specs.Grammar.{Item}
 use Rattle.lego_grammar.specs.Machine.{Frame, Mode, State, state, move, level}

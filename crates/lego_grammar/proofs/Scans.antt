@@ -1,21 +1,14 @@
 -- What a scan over tokens begins, reads, and ends with.
-use Rattle.std.proofs.Common.{◌≡◌, ◌⊎◌, inl, inr, ℕ, zero, suc, ◌≤◌, ◌<◌, List, [], ◌∷◌, ◌++◌, false, Option, Some, None, slice_get, map, take, length, refl, sym, ap, ◌∙◌, subst, arith}
-use Rattle.lego_base.specs.declared.place.Place.{Place}
-use Rattle.lego_lexer.specs.Tokens.{OfSymbol}
-use Rattle.lego_lexer.specs.declared.token.TokenKind.TheVariants as Token
-use Rattle.lego_lexer.specs.declared.token.Symbol.TheVariants.{OpenSquare, Semicolon}
-use Rattle.lego_grammar.specs.declared.surface.Kind.TheVariants.{Lambda, Pi, Sigma}
-use Rattle.lego_term.specs.declared.binder.Mark.TheVariants.{Plain, Implicit}
+use Rattle.std.proofs.Common.{◌≡◌, ◌⊎◌, inl, inr, ℕ, zero, suc, ◌≤◌, List, [], ◌∷◌, ◌++◌, false, Option, Some, None, map, take, refl, sym, ap, ◌∙◌, subst, arith}
 use Rattle.lego_grammar.specs.Written.{Deed, Order}
 use Rattle.lego_grammar.specs.Grammar.{Names, Nested, Item, item, ReadsCommand, Parses, IsContext}
 use Rattle.lego_grammar.specs.Machine.{Frame, Mode, Start, Between, Done, State, state, move}
-use Rattle.lego_grammar.proofs.Transitions.{class, Closes, Operand, Move, WaitingWord, Runs, runs_on}
+use Rattle.lego_grammar.proofs.Transitions.{class, Move, Runs, runs_on}
 use Rattle.lego_grammar.proofs.Complete.{kept_deed, start_of, complete_command}
 use Rattle.lego_grammar.proofs.Sound.{Holds}
 use Rattle.lego_grammar.proofs.Finish.{finish}
-use Rattle.lego_grammar.proofs.Moving.{move_from}
-use Rattle.lego_grammar.proofs.Beginnings.{goes, goes_none, ran, Ran, texts, known_texts, some_text, holds, no_bindings, gone, map-both}
-use Rattle.lego_grammar.proofs.Sides.{InBindings, Elsewhere, run_in_bindings, run_elsewhere}
+use Rattle.lego_grammar.proofs.Beginnings.{goes, goes_none, ran, texts, known_texts, some_text, holds, no_bindings, gone, map-both}
+use Rattle.lego_grammar.proofs.Sides.{run_in_bindings, run_elsewhere}
 
 -- the two starts
 pub data Begin : Mode → Type 0 where

@@ -1,9 +1,9 @@
 -- Which kind of command the machine goes over, from each of its two starts.
-use Rattle.std.proofs.Common.{◌≡◌, ℕ, List, [], ◌∷◌, Bool, false, refl, sym, ap, ◌∙◌, subst}
+use Rattle.std.proofs.Common.{ℕ, List, [], ◌∷◌, Bool, subst}
 use Rattle.lego_lexer.specs.declared.token.Word.{Word}
-use Rattle.lego_grammar.specs.Written.{Written, Deed}
+use Rattle.lego_grammar.specs.Written.{Written}
 use Rattle.lego_grammar.specs.Grammar.{Names, Nested, IsContext}
-use Rattle.lego_grammar.specs.Machine.{Site, InTerm, InContext, Use, ToShow, ToRefine, ToClaim, ToEquiv, ToHead, ToNormal, ToGoal, deed_of, Frame, ApplyTo, HashFrom, ArrowFrom, BodyOf, BodyWith, Parens, SecondOf, TypeOf, DomainOf, ValueOf, StatedFor, Whole, Mode, Start, Want, WantLevel, CloseLevel, Behind, WantPart, WantGoal, WantName, BehindName, Between, BehindGoal, BehindGoalName, WantIntros, WantNext, WantUndo, WantForget, WantDischarge, BehindSave, WantEnd, Done, settled, summed, closed, wrapped}
+use Rattle.lego_grammar.specs.Machine.{InTerm, InContext, Use, ToShow, ToRefine, ToClaim, ToEquiv, ToHead, ToNormal, ToGoal, deed_of, Frame, ApplyTo, HashFrom, ArrowFrom, BodyOf, BodyWith, DomainOf, ValueOf, StatedFor, Whole, Mode, Want, WantLevel, CloseLevel, Behind, WantPart, WantGoal, WantName, BehindName, Between, WantEnd, Done, settled, summed, closed, wrapped}
 use Rattle.lego_grammar.proofs.Transitions.{Operand, Closes, Move, WaitingWord, Runs}
 
 -- the frames of a context command: the lowest one awaits the end of a binding
