@@ -16,3 +16,4 @@ pub mod Scanning
 pub mod Balance
 pub mod Apart
 pub mod Cases
+pub mod Building
