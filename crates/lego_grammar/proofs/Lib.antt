@@ -9,3 +9,13 @@ pub mod Beginnings
 pub mod Refusals
 pub mod NumberingLemmas
 pub mod RangesOfNames
+pub mod Depths
+pub mod Sides
+pub mod Scans
+pub mod Prevailing
+pub mod Deciding
+pub mod Scanning
+pub mod Balance
+pub mod Apart
+pub mod Cases
+pub mod Building
