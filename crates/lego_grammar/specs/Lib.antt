@@ -4,5 +4,4 @@ pub mod Laws
 pub mod Machine
 pub mod Parsing
 pub mod Surface
-pub mod Parsing
 pub mod Numbering

@@ -1,14 +1,14 @@
 -- What is written for a command is its answer.
-use Rattle.std.proofs.Common.{◌≡◌, true, false, List, Option, Some, None, Result, Ok, Err, IfOk, IfErr, IfSome, IfNone, OnErr, ◌⊎◌, inl, inr, refl, sym, ap, ◌∙◌, subst}
+use Rattle.std.proofs.Common.{◌≡◌, true, false, List, Option, Some, None, Result, Ok, Err, IfOk, IfErr, IfSome, IfNone, OnErr, inl, inr, sym, ◌∙◌, subst}
 use Rattle.lego_base.specs.declared.place.Place.{Place}
 use Rattle.lego_grammar.specs.Grammar.{Names}
 use Rattle.lego_grammar.specs.Written.{Order}
 use Rattle.lego_lexer.specs.Commands.{CommandText}
 use Rattle.lego_kernel.specs.declared.entry.Entry.{Entry as Item}
-use Rattle.lego_session.specs.Commands.{IsCommand, IsUnread, IsUnreadBy, Answers}
+use Rattle.lego_session.specs.Commands.{IsCommand, IsUnreadBy, Answers}
 use Rattle.lego_session.specs.Names.{AreKnown, Grows}
 use Rattle.lego_session.specs.Reading.{is_built}
-use Rattle.lego_session.specs.Refusals.{refusal_text, IsRefusedBy}
+use Rattle.lego_session.specs.Refusals.{IsRefusedBy}
 use Rattle.lego_session.specs.Steps.{Step, IsRefusal}
 use Rattle.lego_session.specs.Unread.{IsWritten}
 use Rattle.lego_session.specs.declared.answer.Answered.{Answered}

@@ -1,8 +1,5 @@
 -- Bindings made one after the other, and why one is refused.
-use Rattle.std.proofs.Common.{◌≡◌, ℕ, zero, suc, ◌+◌, ◌<◌, Bool, true, false, ◌&&◌, List, [], ◌∷◌, ◌++◌, map, take, drop, length, get_or, slice_get, Option, Some, None, refl, sym, ap, ◌∙◌, subst, ◌⊎◌, inl, inr, arith}
-use Rattle.std.specs.List.{AllByRecursion, list_all}
-use Rattle.std.proofs.lemmas.List.{take-append-drop, take-take, length-take, drop_more}
-use Rattle.std.proofs.lemmas.Option.{slice_get-get_or}
+use Rattle.std.proofs.Common.{◌≡◌, ℕ, zero, suc, ◌+◌, ◌<◌, true, List, [], ◌∷◌, ◌++◌, map, take, drop, length, get_or, slice_get, Some, refl, sym, ap, ◌∙◌, subst, inl, inr, arith}
 use mathlib.Core.Bool.{true≢false}
 use Rattle.lego_base.specs.declared.place.Place.{Place}
 use Rattle.lego_term.specs.Trees.{Core}
@@ -22,7 +19,7 @@ use Rattle.lego_kernel.specs.declared.fault.TypeFault.{TypeFault}
 use Rattle.lego_kernel.specs.declared.fault.TypeFault.TheVariants as kernel
 use Rattle.lego_kernel.proofs.AssumeLemmas.{simple_is_type}
 use Rattle.lego_session.specs.Binding.{IsFirstUsed, Assumes, AssumeFails, IsFront, IsReadRefusal, cause_of, BindFails, BindAllFails}
-use Rattle.lego_session.specs.Reading.{is_simple, is_simple_assumption, ReadsType, IsNotRead}
+use Rattle.lego_session.specs.Reading.{is_simple, is_simple_assumption, IsNotRead}
 use Rattle.lego_session.specs.Steps.{AreNew, IsRead, Binds, BindsAll, IsBindingRefused, AreRefused, HasPlaces}
 use Rattle.lego_session.specs.Steps as steps
 use Rattle.lego_session.specs.declared.reading.ReadFault.{ReadFault}
@@ -105,13 +102,17 @@ rest_is (y ∷ xs) (suc i) x h = ap (λ zs. y ∷ zs) (rest_is xs i x h)
 module _ (old mid : List Item) (bs : List Binding) (i : ℕ) (b d : Binding) (l : i < length bs) (is : b ≡ get_or bs i d)
     (made : BindsAll old (take i (map bound_of bs)) mid) (front : IsFront old mid) where
   pub bound-more : (new : List Item) → Binds mid (bound_of b) new → BindsAll old (take (i + 1) (map bound_of bs)) new × IsFront old new
-  bound-more new m =
-      (subst (λ xs. BindsAll old xs new) (sym (next_item (map bound_of bs) i (bound_of b) (bound_at bs i b d l is))) (binds-more made m),
-      subst (IsFront old) (sym m.makes) (front-all old mid Plain b.names m.ty front))
+  bound-more new m = (
+    subst (λ xs. BindsAll old xs new) (sym (next_item (map bound_of bs) i (bound_of b) (bound_at bs i b d l is))) (binds-more made m),
+    subst (IsFront old) (sym m.makes) (front-all old mid Plain b.names m.ty front),
+  )
 
   pub bind-all-fails : (p : Place) (c : Cause) → BindFails mid (bound_of b) p c → BindAllFails old (map bound_of bs) mid p c
-  bind-all-fails p c f = (elim f [
-      inl e ↦ inl e
-    | inr r ↦ inr (subst (λ xs. AreRefused old xs mid p c) (sym (rest_is (map bound_of bs) i (bound_of b) (bound_at bs i b d l is)))
-      (refused-after (drop (suc i) (map bound_of bs)) made r))
-  ], front)
+  bind-all-fails p c f = (
+    elim f [
+      | inl e ↦ inl e
+      | inr r ↦ inr (subst (λ xs. AreRefused old xs mid p c) (sym (rest_is (map bound_of bs) i (bound_of b) (bound_at bs i b d l is)))
+          (refused-after (drop (suc i) (map bound_of bs)) made r))
+    ],
+    front,
+  )

@@ -1,8 +1,8 @@
 -- Assumptions of one type for a list of names.
-use Rattle.std.proofs.Common.{◌≡◌, ℕ, zero, suc, ◌+◌, ◌<◌, ◌≤◌, nat_eq, nat_lt, cond, not, Bool, true, false, ◌||◌, if◌then◌else◌, is_some, List, [], ◌∷◌, ◌++◌, map, take, drop, length, get_or, slice_get, position, Option, Some, None, refl, sym, ap, ◌∙◌, subst, append_assoc, append-nil, ◌⊎◌, inl, inr, arith}
+use Rattle.std.proofs.Common.{◌≡◌, ℕ, zero, suc, ◌+◌, ◌<◌, ◌≤◌, nat_eq, nat_lt, Bool, true, false, ◌||◌, if◌then◌else◌, is_some, List, [], ◌∷◌, ◌++◌, take, length, slice_get, position, Option, Some, None, refl, sym, ap, ◌∙◌, subst, arith}
 use Rattle.std.specs.List.{list_any, position_or_len}
 use Rattle.std.proofs.lemmas.Bool.Decides.{nat_tests}
-use Rattle.std.proofs.lemmas.List.{take-append-le, take_all, take-take, length-append, length-take}
+use Rattle.std.proofs.lemmas.List.{take-append-le, take_all, length-append, length-take}
 use Rattle.std.proofs.lemmas.List.Folds.{list_any-append}
 use Rattle.std.proofs.lemmas.Option.{slice_get_within}
 use Rattle.std.proofs.lemmas.Bool.{ltb-true, ltb-false}
@@ -12,7 +12,7 @@ use Rattle.lego_term.specs.declared.binder.Mark.{Mark}
 use Rattle.lego_term.specs.declared.binder.Mark.TheVariants.{Plain}
 use Rattle.lego_kernel.specs.Assuming.{IsRefused, NoTypeIn}
 use Rattle.lego_kernel.specs.Entries.{position_of, is_named, assumption, laws_entries}
-use Rattle.lego_kernel.specs.Simple.{IsSimple, IsSimpleOver, IsSimpleType}
+use Rattle.lego_kernel.specs.Simple.{IsSimple, IsSimpleType}
 use Rattle.lego_kernel.specs.declared.entry.Entry.{Entry as Item}
 use Rattle.lego_kernel.specs.declared.fault.TypeFault.{TypeFault}
 use Rattle.lego_kernel.specs.declared.fault.TypeFault.TheVariants.{NotAType, Full, NameInUse, Memory}
@@ -131,9 +131,10 @@ module _ (es mid : List Item) (ns : List ℕ) (ty : Core) (i n : ℕ) (made : mi
 
   pub assumed-more : (new : List Item) → new ≡ mid ++ assumption mid n Plain ty ∷ [] → IsSimpleType mid ty
       → (new ≡ assume_all es Plain (take (i + 1) ns) ty) × (0 < i + 1 → IsSimpleType es ty)
-  assumed-more new is s =
-      (is ∙ ap (λ xs. xs ++ assumption xs n Plain ty ∷ []) made ∙ sym (ap (λ ks. assume_all es Plain ks ty) (next_item ns i n at) ∙ all-push es Plain (take i ns) n ty),
-      λ l. simple-before i refl s)
+  assumed-more new is s = (
+    is ∙ ap (λ xs. xs ++ assumption xs n Plain ty ∷ []) made ∙ sym (ap (λ ks. assume_all es Plain ks ty) (next_item ns i n at) ∙ all-push es Plain (take i ns) n ty),
+    λ l. simple-before i refl s,
+  )
 
   pub assume-fails : AreNew es ns → (fault : TypeFault) → IsRefused mid n ty fault → AssumeFails es ns ty fault
   assume-fails new (NameInUse k) h =
@@ -162,9 +163,11 @@ first-more es ns i n seen more is new at unused grown =
     or_false : (a b : Bool) → (a || b) ≡ false → (a ≡ false) × (b ≡ false)
     or_false false b e = (refl, e)
     or_false true b e = absurd (true≢false e)
+
     none_of : (o : Option ℕ) → is_some o ≡ false → o ≡ None
     none_of None e = refl
     none_of (Some x) e = absurd (true≢false e)
+
     by_test : (k m : ℕ) (b : Bool) → nat_lt k i ≡ b → k < i + 1 → slice_get ns k ≡ Some m
         → (is_some (position_of es n) ≡ false) × (list_any (nat_eq n) seen ≡ false) → IsNew es ns k m
     by_test k m true e l there both = new k m (ltb-true k i e) there

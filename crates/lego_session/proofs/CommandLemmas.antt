@@ -1,21 +1,21 @@
 -- From what the parser answers to what bytes are, and why they are no command.
-use Rattle.std.proofs.Common.{◌≡◌, ℕ, zero, suc, ◌<◌, ◌≤◌, List, [], ◌∷◌, map, length, slice_get, Option, Some, None, option_map, ◌⊎◌, inl, inr, refl, sym, ap, ◌∙◌, subst, arith, get_or, ◌≡◌, true, false}
-use Rattle.std.proofs.lemmas.Option.{slice_get-map, slice_get_cases, get_or_from_slice_get}
+use Rattle.std.proofs.Common.{◌≡◌, ℕ, zero, suc, ◌<◌, ◌≤◌, List, [], ◌∷◌, map, length, slice_get, Some, None, option_map, ◌⊎◌, inl, inr, refl, sym, ap, ◌∙◌, subst, arith, ◌≡◌, false}
+use Rattle.std.proofs.lemmas.Option.{slice_get-map, get_or_from_slice_get}
 use Rattle.lego_base.specs.declared.place.Place.{Place}
-use Rattle.lego_lexer.specs.Tokens.{Tokens, Placed, placed, Refused}
+use Rattle.lego_lexer.specs.Tokens.{Tokens, placed, Refused}
 use Rattle.lego_lexer.specs.declared.token.LexFault.{LexFault}
 use Rattle.lego_lexer.specs.declared.token.LexFault.TheVariants as Lex
 use Rattle.lego_lexer.specs.Commands.{CommandText}
 use Rattle.lego_lexer.specs.declared.token.Token.{Token}
 use Rattle.lego_lexer.proofs.Ranges.{token_in_range}
-use Rattle.lego_grammar.specs.Grammar.{Names, Item, item, item_of, Nested, Parses, ReadsCommand, IsUnexpected, IsTooDeep}
+use Rattle.lego_grammar.specs.Grammar.{Names, Item, item, item_of, Nested, ReadsCommand, IsUnexpected, IsTooDeep}
 use Rattle.lego_grammar.specs.Parsing.{ParsesTo, AreTooMany, IsNoCommand}
 use Rattle.lego_grammar.specs.Written.{Order}
 use Rattle.lego_grammar.specs.declared.fault.ParseFault.{ParseFault}
 use Rattle.lego_grammar.specs.declared.fault.ParseFault.TheVariants as Fault
 use Rattle.lego_session.specs.Commands.{grammar_tokens, HasTokens, IsCommand, IsUnread, IsUnreadBy, lex_place, lex_cause}
 use Rattle.lego_session.specs.Reading.{is_built}
-use Rattle.lego_session.specs.Unread.{StandsAt, HasItsToken, IsUnexpectedToken, IsNotParsed}
+use Rattle.lego_session.specs.Unread.{HasItsToken, IsUnexpectedToken, IsNotParsed}
 use Rattle.lego_session.specs.declared.refusal.Cause.{Cause}
 use Rattle.lego_session.proofs.TokenLemmas.{tokens_apart}
 use Rattle.std.proofs.lemmas.Option.{same_Some}

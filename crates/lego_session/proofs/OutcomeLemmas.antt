@@ -1,7 +1,7 @@
 -- What a call of `run` did, from what its parts did.
 use Rattle.std.proofs.Common.{◌≡◌, ℕ, ◌+◌, ◌≤◌, ◌<◌, min, nat_lt, Bool, true, false, ◌||◌, List, [], ◌++◌, length, take, Option, None, Some, refl, sym, ap, ◌∙◌, subst, inl, inr, arith, append-nil, length-append}
 use Rattle.std.specs.Prelude.{◌⊎◌}
-use Rattle.std.proofs.Math.Seq.{take-append_seam, take-append-add}
+use Rattle.std.proofs.Math.Seq.{take-append-add}
 use Rattle.std.proofs.lemmas.Bool.{ltb-true, ltb-false, false≢true}
 use Rattle.std.proofs.lemmas.List.{take_all}
 use Rattle.std.proofs.lemmas.Option.{slice_get_within}
@@ -16,10 +16,10 @@ use Rattle.lego_kernel.specs.declared.entry.Entry.{Entry as Item}
 use Rattle.lego_kernel.proofs.PureLemmas.{holds_purely}
 use Rattle.lego_session.specs.Headline.{Headline}
 use Rattle.lego_session.specs.Names.{AreKnown}
-use Rattle.lego_session.specs.Outcomes.{Ended, AnswersAll, AnswersFront, Broken, Overlong, Stopped, Outcome, IsAcceptable}
+use Rattle.lego_session.specs.Outcomes.{Ended, AnswersFront, Broken, Overlong, Stopped, Outcome, IsAcceptable}
 use Rattle.lego_session.specs.Progress.{AreAnswered, Halted, Finished}
 use Rattle.lego_session.proofs.DenotesPrintable.{IsPrintable}
-use Rattle.lego_session.specs.Runs.{Run, Runs, first_place, answers_text, closing_text, output_of, refuses, is_ending_refused}
+use Rattle.lego_session.specs.Runs.{Run, Runs, first_place, answers_text, closing_text, refuses, is_ending_refused}
 use Rattle.lego_session.specs.Steps.{Answer}
 use Rattle.lego_session.specs.declared.status.Status.{Status}
 use Rattle.lego_session.specs.declared.status.Status.TheVariants.{Accepted, Refused, Usage, ReadFault, WriteFault, Memory, OpenProof, TooLong}

@@ -1,5 +1,5 @@
 -- Each binding that is read has a name, and a place for each of its names.
-use Rattle.std.proofs.Common.{◌≡◌, ℕ, suc, ◌<◌, List, [], ◌∷◌, map, length, refl, ap, arith}
+use Rattle.std.proofs.Common.{◌≡◌, ℕ, suc, ◌<◌, List, [], ◌∷◌, length, refl, ap, arith}
 use Rattle.lego_grammar.specs.Grammar.{Names, Nested, Item as Token, Parses, NameList, ReadsBinding, ReadsBindings, ReadsAct, ReadsCommand, TermWord, NumberWord, NameWord, LoneWord, places_of, names_of}
 use Rattle.lego_grammar.specs.Written.{Bound, Deed, NameAt, Order}
 use Rattle.lego_session.specs.Steps.{HasPlaces, bounds_of}

@@ -1,5 +1,5 @@
 -- The form of simple written types.
-use Rattle.std.proofs.Common.{◌≡◌, ℕ, ◌<◌, ◌+◌, zero, suc, Bool, true, false, ◌&&◌, ◌==◌, nat_eq, List, [], ◌∷◌, length, map, slice_get, Result, Ok, Err, Some, None, refl, sym, ap, ◌∙◌, subst, zero-add, ◌⊎◌, inl, inr, arith}
+use Rattle.std.proofs.Common.{◌≡◌, ℕ, ◌<◌, ◌+◌, zero, suc, Bool, true, false, ◌&&◌, ◌==◌, List, [], ◌∷◌, length, map, slice_get, Result, Ok, Err, Some, None, refl, sym, ap, ◌∙◌, subst, zero-add, ◌⊎◌, inl, inr, arith}
 use mathlib.Core.Bool.{true≢false}
 use Rattle.std.proofs.lemmas.Bool.Decides.{nat_tests}
 use Rattle.std.proofs.lemmas.List.Quantifiers.{position-Some}
@@ -10,10 +10,9 @@ use Rattle.lego_term.specs.declared.binder.Mark.TheVariants.{Plain, Implicit}
 use Rattle.lego_grammar.specs.Surface.{written, written_step, applied, projected, bound_of, says_of}
 use Rattle.lego_grammar.specs.declared.command.Binding.{Binding}
 use Rattle.std.specs.List.{list_all}
-use Rattle.lego_grammar.specs.Written.{Written, Named, WrittenProp, AnyType, TypeAt, GoalAt, Bind, Local, Apply, Couple, Project}
+use Rattle.lego_grammar.specs.Written.{Written, Named, WrittenProp, Bind, Apply, Project}
 use Rattle.lego_grammar.specs.declared.surface.Part.{Part}
 use Rattle.lego_grammar.specs.declared.surface.Kind.{Kind}
-use Rattle.lego_grammar.specs.declared.surface.Kind.TheVariants as Kind
 use Rattle.lego_grammar.specs.declared.surface.Surface.{Surface}
 use Rattle.lego_grammar.specs.declared.surface.Surface.TheOpen as level
 use Rattle.lego_grammar.specs.declared.surface.Surface.TheVariants as surface
@@ -135,9 +134,10 @@ module _ (es : List Item) where
 
   pub arrow_reads : (w a b : Written) (c d : Core) (result : Result Core ReadFault) → w ≡ Bind Kind.Pi Plain [] a b
       → ReadsType es a c × IsSimpleOver es c → ReadsType es b d × IsSimpleOver es d → IsMade (Pi arrow_binder c d) result → IsReading es w result
-  arrow_reads w a b c d (Ok made) e r s m =
-      (subst (λ t. ReadsType es w t) (sym m) (subst (λ w. ReadsType es w (Pi arrow_binder c d)) (sym e) (reading.ReadsType.arrow r.0 s.0)),
-      subst (λ t. IsSimpleOver es t) (sym m) (r.1, s.1))
+  arrow_reads w a b c d (Ok made) e r s m = (
+    subst (λ t. ReadsType es w t) (sym m) (subst (λ w. ReadsType es w (Pi arrow_binder c d)) (sym e) (reading.ReadsType.arrow r.0 s.0)),
+    subst (λ t. IsSimpleOver es t) (sym m) (r.1, s.1),
+  )
   arrow_reads w a b c d (Err (TooLarge i j)) e r s m =
       subst (λ w. FirstTooLarge es w i j) (sym e) (reading.FirstTooLarge.whole r.0 s.0 m.0 m.1 m.2)
   arrow_reads w a b c d (Err NotBuilt) e r s m = absurd m

@@ -1,5 +1,5 @@
 -- A command's step, from what its bindings made or why one is refused.
-use Rattle.std.proofs.Common.{◌≡◌, ℕ, ◌≤◌, Bool, true, false, List, [], ◌++◌, take, drop, length, Result, Ok, Err, IfOk, OnOk, OnErr, refl, sym, ap, ap₂, ◌∙◌, subst, ◌⊎◌, inl, inr, arith}
+use Rattle.std.proofs.Common.{◌≡◌, ℕ, ◌≤◌, true, false, List, take, drop, length, Result, Ok, Err, IfOk, OnOk, OnErr, sym, ap, ap₂, ◌∙◌, subst, ◌⊎◌, inl, inr, arith}
 use Rattle.std.proofs.lemmas.List.{length-take}
 use Rattle.lego_base.specs.declared.place.Place.{Place}
 use Rattle.lego_term.specs.declared.binder.Mark.TheVariants.{Plain}
@@ -41,12 +41,12 @@ module _ (names : Names) (old mid : List Item) (o : Order) (bs : List Bound) (is
 
   pub refused-steps : (fp p : Place) (fc c : Cause) (text : List ℕ) → BindAllFails old bs mid fp fc → IsRefusedBy names mid fp fc p c text → IsRefusal names old o p c text
   refused-steps fp p fc c text fails by = elim by [
-      inl m ↦ inl m
+    | inl m ↦ inl m
     | inr r ↦ inr (bs, mid, is, refused r.0 r.1 r.2 fails.0, r.3 ∙ ap₂ (λ q x. refusal_text names mid q x) (sym r.1) (sym r.2))
   ]
     where
       refused : (fc ≡ Memory → ⊥) → p ≡ fp → c ≡ fc → (fc ≡ Memory) ⊎ AreRefused old bs mid fp fc → AreRefused old bs mid p c
       refused other at same h = elim h [
-          inl m ↦ absurd (other m)
+        | inl m ↦ absurd (other m)
         | inr r ↦ subst (λ x. AreRefused old bs mid p x) (sym same) (subst (λ q. AreRefused old bs mid q fc) (sym at) r)
       ]

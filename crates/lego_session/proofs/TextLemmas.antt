@@ -1,5 +1,5 @@
 -- A constant's entry, by its number and by its place.
-use Rattle.std.proofs.Common.{◌≡◌, ℕ, ◌+◌, ◌<◌, zero, suc, nat_eq, Bool, true, false, if◌then◌else◌, List, [], ◌∷◌, ◌++◌, find, slice_get, Option, Some, None, option_map, unwrap_or, Result, Ok, Err, OnOk, is_ok, ◌≤◌, take, drop, length, append-nil, append_assoc, refl, sym, ap, ◌∙◌, subst, zero-add, arith}
+use Rattle.std.proofs.Common.{◌≡◌, ℕ, ◌+◌, ◌<◌, zero, suc, nat_eq, Bool, true, false, if◌then◌else◌, List, [], ◌∷◌, ◌++◌, find, slice_get, Some, None, option_map, unwrap_or, Result, Ok, Err, OnOk, is_ok, ◌≤◌, take, drop, append-nil, append_assoc, refl, sym, ap, ◌∙◌, subst, zero-add, arith}
 use Rattle.std.specs.List.{flat_map}
 use Rattle.std.proofs.lemmas.Bool.Decides.{nat_tests}
 use Rattle.std.proofs.lemmas.Grind.{flat_map-append}

@@ -11,7 +11,7 @@ use Rattle.lego_kernel.specs.declared.entry.Entry.{Entry as Item}
 use Rattle.lego_kernel.specs.declared.fault.Counted.TheVariants.{Entries}
 use Rattle.lego_kernel.specs.declared.fault.TypeFault.{TypeFault}
 use Rattle.lego_kernel.specs.declared.fault.TypeFault.TheVariants as Kernel
-use Rattle.lego_session.specs.Steps.{AreNew, FirstAreNew, IsNew, assume_all, IsBindingRefused, AreRefused, BindsAll}
+use Rattle.lego_session.specs.Steps.{AreNew, FirstAreNew, IsNew, assume_all, IsBindingRefused, AreRefused}
 use Rattle.lego_session.specs.declared.reading.ReadFault.{ReadFault}
 use Rattle.lego_session.specs.declared.reading.ReadFault.TheVariants as Read
 use Rattle.lego_session.specs.declared.refusal.Cause.{Cause}

@@ -1,8 +1,8 @@
 -- How a command's bytes are read, and answered.
-use Rattle.std.specs.Prelude.{◌≡◌, ℕ, ◌<◌, ◌≤◌, Bool, true, false, List, [], ◌∷◌, map, length, slice_get, slice_range, Some, ◌⊎◌, All, Contains}
+use Rattle.std.specs.Prelude.{◌≡◌, ℕ, ◌<◌, ◌≤◌, true, false, List, map, length, slice_get, slice_range, Some, ◌⊎◌, All}
 use Rattle.lego_base.specs.declared.place.Place.{Place}
 use Rattle.lego_lexer.specs.Commands.{CommandText}
-use Rattle.lego_lexer.specs.Tokens.{Placed, Tokens, AllWithinLimits, Refused, Name}
+use Rattle.lego_lexer.specs.Tokens.{Placed, Tokens, AllWithinLimits, Refused}
 use Rattle.lego_lexer.specs.declared.token.LexFault.{LexFault}
 use Rattle.lego_lexer.specs.declared.token.LexFault.TheVariants as Lex
 use Rattle.lego_grammar.specs.Grammar.{Names, Item as Token, Parses, IsUnexpected, IsTooDeep}

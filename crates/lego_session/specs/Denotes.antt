@@ -1,12 +1,12 @@
 -- What the text of a development denotes.
-use Rattle.std.specs.Prelude.{◌≡◌, ℕ, List, [], ◌∷◌, ◌++◌, None, Some}
+use Rattle.std.specs.Prelude.{◌≡◌, ℕ, List, [], ◌∷◌, ◌++◌}
 use Rattle.lego_base.specs.declared.place.Place.{Place}
 use Rattle.lego_term.specs.Trees.{Core}
 use Rattle.lego_term.specs.declared.binder.Mark.TheVariants.{Plain}
 use Rattle.lego_lexer.specs.Commands.{CommandText, Cuts, Whole}
 use Rattle.lego_lexer.specs.Tokens.{Placed, Tokens}
 use Rattle.lego_grammar.specs.Grammar.{Names, Parses}
-use Rattle.lego_grammar.specs.Written.{Written, Assumed, Bound, Deed, Bindings, Explicit, Order}
+use Rattle.lego_grammar.specs.Written.{Written, Assumed, Bound, Bindings, Explicit, Order}
 use Rattle.lego_kernel.specs.Entries.{assumption}
 use Rattle.lego_kernel.specs.declared.entry.Entry.{Entry as Item}
 use Rattle.lego_session.specs.Commands.{grammar_tokens}

@@ -9,18 +9,14 @@ use Rattle.lego_lexer.specs.Commands.{CommandText, Cuts, Ending, Whole, Unended,
 use Rattle.lego_grammar.specs.Grammar.{Names}
 use Rattle.lego_kernel.specs.Contexts.{IsContext}
 use Rattle.lego_kernel.specs.declared.entry.Entry.{Entry as Item}
-use Rattle.lego_session.specs.Names.{AreKnown}
 use Rattle.lego_session.specs.Outcomes.{AnswersFront}
 use Rattle.lego_session.specs.Runs.{Runs, first_place, answers_text, some_refused, closing_text, is_ending_refused}
 use Rattle.lego_session.specs.Steps.{Answer}
 use Rattle.lego_session.specs.declared.running.Next.{Next}
-use Rattle.lego_session.specs.declared.running.Next.TheVariants as Next
 use Rattle.lego_session.specs.declared.running.Rest.{Rest}
-use Rattle.lego_session.specs.declared.running.Rest.TheVariants as Rest
 use Rattle.lego_session.specs.declared.script.End.{End}
-use Rattle.lego_session.specs.declared.script.End.TheVariants as End
 use Rattle.lego_session.specs.declared.status.Status.{Status}
-use Rattle.lego_session.specs.declared.status.Status.TheVariants.{Accepted, Refused, Usage, ReadFault, WriteFault, Memory, OpenProof, TooLong}
+use Rattle.lego_session.specs.declared.status.Status.TheVariants.{Accepted, Refused, WriteFault, Memory}
 
 -- what is known where no more is read, of so many bytes
 abbrev pub IsRead : Option (List ℕ) → ℕ → ℕ → ℕ → End → Type 0

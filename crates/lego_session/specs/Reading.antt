@@ -1,5 +1,5 @@
 -- What is read of the written commands so far: assumptions whose types are made of `Prop`, names and arrows.
-use Rattle.std.specs.Prelude.{◌≡◌, ℕ, Bool, true, false, ◌&&◌, List, [], ◌∷◌, slice_get, Some, None, Result, Ok, Err}
+use Rattle.std.specs.Prelude.{◌≡◌, ℕ, Bool, true, false, ◌&&◌, List, [], slice_get, Some, None, Result, Ok, Err}
 use Rattle.std.specs.List.{list_all}
 use Rattle.lego_base.specs.declared.place.Place.{Place}
 use Rattle.lego_term.specs.Trees.{Core, Const, Prop, Pi, size, depth}
@@ -7,9 +7,8 @@ use Rattle.lego_term.specs.Made.{Passes}
 use Rattle.lego_term.specs.declared.binder.Binder.{Binder}
 use Rattle.lego_term.specs.declared.binder.Mark.{Mark}
 use Rattle.lego_term.specs.declared.binder.Mark.TheVariants.{Plain}
-use Rattle.lego_grammar.specs.Written.{Written, Named, WrittenProp, Bind, Says, Assumed, Bound, Deed, Bindings}
+use Rattle.lego_grammar.specs.Written.{Written, Named, WrittenProp, Bind, Says, Assumed, Deed, Bindings}
 use Rattle.lego_grammar.specs.declared.surface.Kind.{Kind}
-use Rattle.lego_grammar.specs.declared.surface.Kind.TheVariants as Kind
 use Rattle.lego_kernel.specs.Entries.{position_of}
 use Rattle.lego_kernel.specs.Simple.{IsSimpleOver}
 use Rattle.lego_kernel.specs.declared.entry.Entry.{Entry as Item}

@@ -1,5 +1,5 @@
 -- The texts of types, entries and the development.
-use Rattle.std.specs.Prelude.{ℕ, nat_lt, nat_eq, if◌then◌else◌, List, [], ◌∷◌, ◌++◌, codes, find, Some, None, option_map, unwrap_or}
+use Rattle.std.specs.Prelude.{ℕ, nat_lt, nat_eq, if◌then◌else◌, List, [], ◌++◌, codes, find, option_map, unwrap_or}
 use Rattle.std.specs.List.{flat_map}
 use Rattle.lego_term.specs.Trees.{Core, Const, Prop, Pi}
 use Rattle.lego_grammar.specs.Grammar.{Names}

@@ -84,11 +84,7 @@ fn bind(
 }
 
 /// The first name that an entry has or that stands earlier in the list.
-fn first_used(
-    alloc: Global,
-    context: &Context,
-    names: &[u32],
-) -> Result<Option<usize>, AllocError>
+fn first_used(alloc: Global, context: &Context, names: &[u32]) -> Result<Option<usize>, AllocError>
     ensures { IfOk result (λ used. IsFirstUsed context.now names.now used) }
 {
     let mut seen = IndexSet::new(alloc);
@@ -112,12 +108,7 @@ fn is_used(context: &Context, seen: &IndexSet<u32>, name: u32) -> bool
 }
 
 /// Adds an assumption of the type for each name, of which none is in use.
-fn assume_names(
-    context: &mut Context,
-    names: &[u32],
-    ty: &Term,
-    at: At,
-) -> Result<(), TypeFault>
+fn assume_names(context: &mut Context, names: &[u32], ty: &Term, at: At) -> Result<(), TypeFault>
     requires simple { IsSimpleOver context.old ty.now }
     requires new { AreNew context.old names.now }
     requires some { 0 < length names.now }

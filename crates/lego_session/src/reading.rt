@@ -142,12 +142,7 @@ pub(crate) fn core_of(alloc: Global, context: &Context, ty: &Surface) -> Result<
 }
 
 /// The constant of the entry that has the name.
-fn constant_of(
-    alloc: Global,
-    context: &Context,
-    place: Place,
-    name: u32,
-) -> Result<Term, ReadFault>
+fn constant_of(alloc: Global, context: &Context, place: Place, name: u32) -> Result<Term, ReadFault>
     ensures { IsReading context.now (Named place name) result }
 {
     let _entries = context.len();

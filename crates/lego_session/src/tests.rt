@@ -1,3 +1,5 @@
+ghost use Rattle.std.specs.Prelude.{◌<◌};
+
 use super::*;
 use lego_base::{MemSink, MemSource, Names};
 use std::alloc::{AllocError, Global};

@@ -1,5 +1,4 @@
 use Rattle.lego_grammar.specs.Surface.{order_of}
-use Rattle.lego_lexer.specs.Commands.{CommandText}
 use Rattle.lego_session.proofs.AnswerLemmas.{command_written, unread_written, written_known}
 use Rattle.lego_session.proofs.KnownLemmas.{known_more}
 use Rattle.lego_session.proofs.PlacesLemmas.{parsed_places}

@@ -1,4 +1,4 @@
-use Rattle.std.proofs.Common.{◌≡◌, ℕ, List, Option, Some, sym, ap, ◌∙◌, subst}
+use Rattle.std.proofs.Common.{ℕ, List, Option, Some, subst}
 use Rattle.lego_grammar.specs.Surface.{bound_of, written}
 use Rattle.lego_session.specs.Binding.{IsFirstUsed, Assumes, AssumeFails}
 use Rattle.lego_session.specs.Steps.{AreNew, IsRead}

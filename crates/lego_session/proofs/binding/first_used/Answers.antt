@@ -1,7 +1,5 @@
-use Rattle.std.proofs.Common.{◌≡◌, ◌+◌, ◌<◌, ◌||◌, nat_eq, is_some, length, sym, ap, ◌∙◌, subst, arith}
-use Rattle.std.specs.List.{list_any}
+use Rattle.std.proofs.Common.{◌≡◌, length, sym, ◌∙◌, subst, arith}
 use Rattle.std.proofs.lemmas.Option.{slice_get-get_or}
-use Rattle.lego_kernel.specs.Entries.{position_of}
 use Rattle.lego_session.specs.Steps.{FirstAreNew}
 use Rattle.lego_session.proofs.BindingLemmas.{first-more}
 use Rattle.lego_session.proofs.binding.first_used.Goals as goal

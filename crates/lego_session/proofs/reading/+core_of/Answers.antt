@@ -1,4 +1,4 @@
-use Rattle.std.proofs.Common.{◌≡◌, ◌==◌, ◌&&◌, true, false, length, List, refl, sym, ap, ◌∙◌, subst}
+use Rattle.std.proofs.Common.{◌==◌, ◌&&◌, length, List, sym, ap, ◌∙◌, subst}
 use Rattle.lego_term.specs.declared.binder.Mark.{Mark}
 use Rattle.lego_grammar.specs.Surface.{written}
 use Rattle.lego_grammar.specs.Written.{Written}

@@ -1,4 +1,4 @@
-use Rattle.std.proofs.Common.{◌≡◌, ◌==◌, ◌&&◌, List, length, false, true, refl, sym, ap, ◌∙◌}
+use Rattle.std.proofs.Common.{◌≡◌, ◌==◌, ◌&&◌, List, length, true, sym, ap, ◌∙◌}
 use Rattle.lego_term.specs.declared.binder.Mark.{Mark}
 use Rattle.lego_grammar.specs.Surface.{written}
 use Rattle.lego_grammar.specs.declared.surface.Part.{Part}

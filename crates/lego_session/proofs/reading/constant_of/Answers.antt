@@ -1,8 +1,5 @@
-use Rattle.std.proofs.Common.{◌≡◌, ◌<◌, length, slice_get, Option, Some, None, refl, sym, ap, ◌∙◌}
+use Rattle.std.proofs.Common.{sym, ap, ◌∙◌}
 use Rattle.std.specs.Option.{option_copied}
-use Rattle.std.proofs.lemmas.Option.{slice_get_cases}
-use Rattle.lego_kernel.specs.Entries.{position_of}
-use Rattle.lego_kernel.specs.declared.entry.Entry.{Entry as Item}
 use Rattle.lego_session.specs.Reading as reading
 use Rattle.lego_session.proofs.ReadingLemmas.{position_within, name_reads, is_there}
 use Rattle.lego_session.proofs.reading.constant_of.Goals as goal

@@ -1,4 +1,4 @@
-use Rattle.std.proofs.Common.{◌≡◌, List, sym, ap, ◌∙◌}
+use Rattle.std.proofs.Common.{List, sym, ap, ◌∙◌}
 use Rattle.std.specs.List.{list_all}
 use Rattle.lego_grammar.specs.Surface.{deed_of_act, says_of}
 use Rattle.lego_grammar.specs.declared.command.Binding.{Binding}

@@ -1,4 +1,4 @@
-use Rattle.std.proofs.Common.{◌≡◌, ◌++◌, codes, sym, ap, ◌∙◌}
+use Rattle.std.proofs.Common.{◌++◌, codes, ap, ◌∙◌}
 use Rattle.lego_session.specs.Texts.{type_text}
 use Rattle.lego_session.proofs.TextLemmas.{pieces, on_ok-map}
 use Rattle.lego_session.proofs.refusal_text.push_not_a_type.Goals as goal

@@ -1,4 +1,4 @@
-use Rattle.std.proofs.Common.{◌≡◌, ◌++◌, codes, decimal, sym, ap, ◌∙◌}
+use Rattle.std.proofs.Common.{◌++◌, codes, decimal, ap, ◌∙◌}
 use Rattle.lego_session.proofs.TextLemmas.{pieces, on_ok-map}
 use Rattle.lego_session.proofs.refusal_text.push_too_large.Goals as goal
 

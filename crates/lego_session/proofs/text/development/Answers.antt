@@ -1,8 +1,6 @@
-use Rattle.std.proofs.Common.{◌≡◌, ◌++◌, codes, sym, ap, ◌∙◌, append_assoc}
-use Rattle.std.specs.List.{flat_map}
-use Rattle.std.specs.Option.{option_copied}
+use Rattle.std.proofs.Common.{codes, sym}
 use Rattle.lego_session.specs.Texts.{entry_command}
-use Rattle.lego_session.proofs.TextLemmas.{next_text, more_text}
+use Rattle.lego_session.proofs.TextLemmas.{more_text}
 use Rattle.lego_session.proofs.text.development.Goals as goal
 
 pub loop-at-preserved : goal.loop-at-preserved

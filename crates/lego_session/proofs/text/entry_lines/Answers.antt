@@ -1,4 +1,4 @@
-use Rattle.std.proofs.Common.{◌≡◌, ◌++◌, codes, sym, ap, ◌∙◌}
+use Rattle.std.proofs.Common.{◌++◌, codes, sym, ap, ◌∙◌}
 use Rattle.lego_session.specs.Texts.{entry_text}
 use Rattle.lego_session.proofs.TextLemmas.{next_from}
 use Rattle.lego_session.proofs.text.entry_lines.Goals as goal

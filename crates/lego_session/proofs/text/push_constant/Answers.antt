@@ -1,5 +1,4 @@
-use Rattle.std.proofs.Common.{◌≡◌, ◌++◌, [], append-nil, sym, ap, ◌∙◌}
-use Rattle.std.specs.Option.{option_copied}
+use Rattle.std.proofs.Common.{◌++◌, append-nil, sym, ap, ◌∙◌}
 use Rattle.lego_session.proofs.TextLemmas.{constant_some, constant_none, adds}
 use Rattle.lego_session.proofs.text.push_constant.Goals as goal
 

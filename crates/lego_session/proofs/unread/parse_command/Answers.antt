@@ -1,4 +1,4 @@
-use Rattle.std.proofs.Common.{◌≡◌, None, sym, ◌∙◌}
+use Rattle.std.proofs.Common.{sym, ◌∙◌}
 use Rattle.lego_session.proofs.CommandLemmas.{its_token, not_parsed_unread, is_command, first_token, unbuilt_unread, token_range}
 use Rattle.lego_session.proofs.unread.parse_command.Goals as goal
 

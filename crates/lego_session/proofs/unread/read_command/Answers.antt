@@ -1,4 +1,4 @@
-use Rattle.std.proofs.Common.{◌≡◌, length, inr, arith}
+use Rattle.std.proofs.Common.{inr, arith}
 use Rattle.lego_session.specs.Commands.{IsUnread}
 use Rattle.lego_session.proofs.CommandLemmas.{not_lexed_unread}
 use Rattle.lego_session.proofs.unread.read_command.Goals as goal
