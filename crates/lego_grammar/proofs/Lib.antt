@@ -7,3 +7,6 @@ pub mod Moving
 pub mod Unique
 pub mod Beginnings
 pub mod Refusals
+pub mod FrameLemmas
+pub mod TreeLemmas
+pub mod StackLemmas

@@ -1,10 +1,16 @@
 //! Written terms and commands, the grammar that reads them from tokens, and its laws.
 #![tactic(auto)]
 
+mod actions;
+mod closings;
 mod command;
 mod fault;
 mod laws;
+mod machine;
+mod moves;
+mod stack;
 mod surface;
+mod trees;
 
 ghost use Rattle.lego_grammar.specs.Grammar.{IsTooDeep};
 ghost use Rattle.lego_grammar.specs.Surface.{order_of};
