@@ -145,10 +145,12 @@ fn names_are_numbered_by_first_sight(rt: HostRuntime) -> Result<(), Fail> {
         let id = names.intern(text);
         assert_eq!(rt; id, Ok(*number));
         assert_eq!(rt; names.len(), *held);
+        assert_eq!(rt; names.find(text), Some(*number));
     }
     for (number, text) in [(0, b"A".as_slice()), (1, b"a"), (2, b"x'1"), (3, b"x'")] {
         assert!(rt; number < names.len());
         assert_eq!(rt; names.text(number), text);
     }
+    assert_eq!(rt; names.find(b"b"), None);
     Ok(())
 }

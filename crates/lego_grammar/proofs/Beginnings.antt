@@ -19,11 +19,11 @@ goes [] (Some st) = Some st
 goes (i ∷ is) (Some st) = goes is (move false (class i.lexeme) i.place 0 st)
 
 -- the names have the text of a name
-abbrev Has : Names → Lexeme → Type 0
+abbrev pub Has : Names → Lexeme → Type 0
 Has names (Name text) = (i : ℕ) × (slice_get names i ≡ Some text)
 Has names _ = Unit {0}
 
-abbrev Known : Names → List Item → Type 0
+abbrev pub Known : Names → List Item → Type 0
 Known names [] = Unit {0}
 Known names (i ∷ is) = Has names i.lexeme × Known names is
 
@@ -38,7 +38,7 @@ known_more text names [] h = tt
 known_more text names (i ∷ is) h = (has_more text names i.lexeme h.0, known_more text names is h.1)
 
 -- a text for each token
-abbrev text_of : Lexeme → List ℕ
+abbrev pub text_of : Lexeme → List ℕ
 text_of (Name text) = text
 text_of _ = []
 
@@ -52,11 +52,11 @@ has_first (Number n) names = tt
 has_first (OfWord w) names = tt
 has_first (OfSymbol s) names = tt
 
-known_texts : (is : List Item) → Known (texts is) is
+pub known_texts : (is : List Item) → Known (texts is) is
 known_texts [] = tt
 known_texts (i ∷ is) = (has_first i.lexeme (texts is), known_more (text_of i.lexeme) (texts is) is (known_texts is))
 
-some_text : (is : List Item) → (i : ℕ) × (text : List ℕ) × (slice_get (texts is) i ≡ Some text)
+pub some_text : (is : List Item) → (i : ℕ) × (text : List ℕ) × (slice_get (texts is) i ≡ Some text)
 some_text [] = (0, [], refl)
 some_text (i ∷ is) = (0, text_of i.lexeme, refl)
 
@@ -69,15 +69,15 @@ fits names (OfSymbol s) h = refl
 none_some : {X : Type 0} {x : X} {A : Type 0} → ◌≡◌ {A = Option X} None (Some x) → A
 none_some e = cc
 
-goes_none : (is : List Item) → goes is None ≡ None
+pub goes_none : (is : List Item) → goes is None ≡ None
 goes_none [] = refl
 goes_none (i ∷ is) = refl
 
 -- a run over the tokens, where the machine goes over them
 pub record Ran (names : Names) (m : Mode) (fs : List Frame) (is : List Item) (st : State) : Type 0 where
-  nested : List Nested
-  same : map item nested ≡ is
-  runs : Runs names false m fs nested st.mode st.frames
+  pub nested : List Nested
+  pub same : map item nested ≡ is
+  pub runs : Runs names false m fs nested st.mode st.frames
 
 ran_first : (names : Names) (i : Item) (is : List Item) (m : Mode) (fs : List Frame) {st : State} → Has names i.lexeme
     → ((s : State) → goes is (Some s) ≡ Some st → Ran names s.mode s.frames is st)

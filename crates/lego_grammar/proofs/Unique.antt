@@ -158,7 +158,7 @@ exclusive (Deed.Bindings bs) vs t s l r e = tt
 exclusive _ vs t s l r e = let y = ends_context vs t s l r e in let z = y.1 in cc
 
 -- the tokens of a context command end with `]` and `;`
-context_ends : {names : Names} {ts : List Nested} {deed : Deed} → ReadsAct names ts deed → IsContext deed → (us : List Nested) × (t : Nested) × (ts ≡ us ++ t ∷ []) × (t.lexeme ≡ OfSymbol CloseSquare)
+pub context_ends : {names : Names} {ts : List Nested} {deed : Deed} → ReadsAct names ts deed → IsContext deed → (us : List Nested) × (t : Nested) × (ts ≡ us ++ t ∷ []) × (t.lexeme ≡ OfSymbol CloseSquare)
 context_ends (ReadsAct.bindings r) h = bindings_end r
 context_ends (ReadsAct.show r) h = absurd h
 context_ends (ReadsAct.with_term TermWord.refine r) h = absurd h

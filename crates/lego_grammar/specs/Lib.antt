@@ -2,4 +2,8 @@ pub mod Written
 pub mod Grammar
 pub mod Laws
 pub mod Machine
+pub mod Parsing
 pub mod Surface
+pub mod Numbering
+pub mod Frames
+pub mod Stack

@@ -1,10 +1,18 @@
 //! Written terms and commands, the grammar that reads them from tokens, and its laws.
 #![tactic(auto)]
 
+mod actions;
+mod closings;
 mod command;
 mod fault;
+mod interning;
 mod laws;
+mod machine;
+mod moves;
+mod parser;
+mod stack;
 mod surface;
+mod trees;
 
 ghost use Rattle.lego_grammar.specs.Grammar.{IsTooDeep};
 ghost use Rattle.lego_grammar.specs.Surface.{order_of};
@@ -14,4 +22,5 @@ pub use fault::ParseFault;
 pub use laws::{
     beginnings_are_decided, kinds_are_one, nestings_are_one, readings_are_one, refusals_are_one,
 };
+pub use parser::parse;
 pub use surface::{Kind, Part, Surface};

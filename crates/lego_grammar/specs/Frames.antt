@@ -1,0 +1,75 @@
+-- What the parser's stack and its modes stand for.
+use Rattle.std.specs.Prelude.{List, [], ◌∷◌, ℕ, Option, Some, None, map, reverse}
+use Rattle.lego_term.specs.declared.binder.Mark.{Mark}
+use Rattle.lego_grammar.specs.declared.surface.Surface.{Surface}
+use Rattle.lego_grammar.specs.Written.{Written, Bound}
+use Rattle.lego_grammar.specs.Surface.{written, applied, projected, bound_of, deed_of_act}
+use Rattle.lego_grammar.specs.Machine as M
+use Rattle.lego_grammar.specs.declared.machine.Site.{Site}
+use Rattle.lego_grammar.specs.declared.machine.Site.TheVariants as Site
+use Rattle.lego_grammar.specs.declared.machine.Use.{Use}
+use Rattle.lego_grammar.specs.declared.machine.Use.TheVariants as Use
+use Rattle.lego_grammar.specs.declared.machine.Frame.{Frame}
+use Rattle.lego_grammar.specs.declared.machine.Frame.TheVariants as Frame
+use Rattle.lego_grammar.specs.declared.machine.Post.{Post}
+use Rattle.lego_grammar.specs.declared.machine.Mode.{Mode}
+use Rattle.lego_grammar.specs.declared.machine.Mode.TheVariants as Mode
+
+abbrev pub site_of : Site → M.Site
+site_of (Site.Term k) = M.InTerm k
+site_of (Site.Context p bs) = M.InContext p (map bound_of bs.items)
+
+abbrev pub use_of : Use → M.Use
+use_of Use.Show = M.ToShow
+use_of Use.Refine = M.ToRefine
+use_of Use.Claim = M.ToClaim
+use_of Use.Equiv = M.ToEquiv
+use_of Use.Head = M.ToHead
+use_of Use.Normal = M.ToNormal
+use_of (Use.Goal name) = M.ToGoal name
+
+abbrev pub arguments_of : List (Mark × Surface) → List (Mark × Written)
+arguments_of xs = map (λ x. (x.0, written x.1)) xs
+
+abbrev pub frame_of : Frame → M.Frame
+frame_of (Frame.Apply mark function arguments) = M.ApplyTo mark (applied (written function) (arguments_of arguments.items))
+frame_of (Frame.Hash a) = M.HashFrom (written a)
+frame_of (Frame.Arrow a) = M.ArrowFrom (written a)
+frame_of (Frame.Body k m ns a) = M.BodyOf k m ns.items (written a)
+frame_of (Frame.Local n a) = M.BodyWith n (written a)
+frame_of Frame.Parens = M.Parens
+frame_of (Frame.Second m) = M.SecondOf (written m)
+frame_of (Frame.Type m n) = M.TypeOf (written m) (written n)
+frame_of (Frame.Domain site m ns) = M.DomainOf (site_of site) m ns.places.items ns.names.items
+frame_of (Frame.Value site p n) = M.ValueOf (site_of site) p n
+frame_of (Frame.Stated p bs q n m) = M.StatedFor p (map bound_of bs.items) q n (written m)
+frame_of (Frame.Whole u) = M.Whole (use_of u)
+
+-- the newest first
+abbrev pub frames_of : List Frame → List M.Frame
+frames_of fs = reverse (map frame_of fs)
+
+abbrev pub post_of : Post → Written
+post_of v = projected (written v.of) v.parts.items
+
+abbrev pub mode_of : Mode → M.Mode
+mode_of Mode.Start = M.Start
+mode_of Mode.Want = M.Want
+mode_of (Mode.WantLevel v) = M.WantLevel (written v)
+mode_of (Mode.CloseLevel n) = M.CloseLevel n
+mode_of (Mode.Behind l v) = M.Behind l (post_of v)
+mode_of (Mode.WantPart v) = M.WantPart (post_of v)
+mode_of (Mode.WantGoal p) = M.WantGoal p
+mode_of (Mode.WantName site ns) = M.WantName (site_of site) ns.places.items ns.names.items
+mode_of (Mode.BehindName site ns) = M.BehindName (site_of site) ns.places.items ns.names.items
+mode_of (Mode.Between bs) = M.Between (map bound_of bs.items)
+mode_of Mode.BehindGoal = M.BehindGoal
+mode_of (Mode.BehindGoalName p n) = M.BehindGoalName p n
+mode_of (Mode.WantIntros ns) = M.WantIntros ns.places.items ns.names.items
+mode_of Mode.WantNext = M.WantNext
+mode_of Mode.WantUndo = M.WantUndo
+mode_of Mode.WantForget = M.WantForget
+mode_of Mode.WantDischarge = M.WantDischarge
+mode_of Mode.BehindSave = M.BehindSave
+mode_of (Mode.WantEnd act) = M.WantEnd (deed_of_act act)
+mode_of (Mode.Done act) = M.Done (deed_of_act act)

@@ -1,0 +1,118 @@
+-- Bindings made one after the other, and why one is refused.
+use Rattle.std.proofs.Common.{◌≡◌, ℕ, zero, suc, ◌+◌, ◌<◌, true, List, [], ◌∷◌, ◌++◌, map, take, drop, length, get_or, slice_get, Some, refl, sym, ap, ◌∙◌, subst, inl, inr, arith}
+use mathlib.Core.Bool.{true≢false}
+use Rattle.lego_base.specs.declared.place.Place.{Place}
+use Rattle.lego_term.specs.Trees.{Core}
+use Rattle.lego_term.specs.declared.binder.Mark.{Mark}
+use Rattle.lego_term.specs.declared.binder.Mark.TheVariants.{Plain, Implicit}
+use Rattle.lego_grammar.specs.Surface.{written, bound_of, says_of}
+use Rattle.lego_grammar.specs.Written.{Written, Assumed, Bound}
+use Rattle.lego_grammar.specs.declared.command.Binding.{Binding}
+use Rattle.lego_grammar.specs.declared.command.BindingKind.{BindingKind}
+use Rattle.lego_grammar.specs.declared.command.BindingKind.TheVariants.{Assume}
+use Rattle.lego_grammar.specs.declared.surface.Surface.{Surface}
+use Rattle.lego_kernel.specs.Contexts.{IsContext}
+use Rattle.lego_kernel.specs.declared.entry.Entry.{Entry as Item}
+use Rattle.lego_kernel.specs.declared.fault.Counted.{Counted}
+use Rattle.lego_kernel.specs.declared.fault.Counted.TheVariants.{Entries}
+use Rattle.lego_kernel.specs.declared.fault.TypeFault.{TypeFault}
+use Rattle.lego_kernel.specs.declared.fault.TypeFault.TheVariants as kernel
+use Rattle.lego_kernel.proofs.AssumeLemmas.{simple_is_type}
+use Rattle.lego_session.specs.Binding.{IsFirstUsed, Assumes, AssumeFails, IsFront, IsReadRefusal, cause_of, BindFails, BindAllFails}
+use Rattle.lego_session.specs.Reading.{is_simple, is_simple_assumption, IsNotRead}
+use Rattle.lego_session.specs.Steps.{AreNew, IsRead, Binds, BindsAll, IsBindingRefused, AreRefused, HasPlaces}
+use Rattle.lego_session.specs.Steps as steps
+use Rattle.lego_session.specs.declared.reading.ReadFault.{ReadFault}
+use Rattle.lego_session.specs.declared.reading.ReadFault.TheVariants as read
+use Rattle.lego_session.specs.declared.refusal.Cause.{Cause}
+use Rattle.lego_session.specs.declared.refusal.Cause.TheVariants as cause
+use Rattle.lego_session.proofs.BindingLemmas.{front-all}
+use Rattle.lego_session.proofs.TextLemmas.{next_item}
+
+-- a simple assumption is plain
+plain_says : (mark : Mark) (ty : Written) → is_simple_assumption (Assumed mark ty) ≡ true → (Assumed mark ty ≡ Assumed Plain ty) × (is_simple ty ≡ true)
+plain_says Plain ty h = (refl, h)
+plain_says Implicit ty h = absurd (true≢false (sym h))
+
+pub says_plain : (kind : BindingKind) (mark : Mark) (ty : Surface) → kind ≡ Assume mark ty → is_simple_assumption (says_of kind) ≡ true
+    → (says_of kind ≡ Assumed Plain (written ty)) × (is_simple (written ty) ≡ true)
+says_plain kind mark ty e h =
+    let p = plain_says mark (written ty) (ap (λ k. is_simple_assumption (says_of k)) (sym e) ∙ h) in
+    (ap says_of e ∙ p.0, p.1)
+
+module _ (es : List Item) (b : Bound) where
+  pub in_use_fails : (i : ℕ) (p : Place) (c : Cause) → IsFirstUsed es b.names (Some i) → slice_get b.places i ≡ Some p
+      → (n : ℕ) × (slice_get b.names i ≡ Some n) × (c ≡ cause.NameInUse n) → BindFails es b p c
+  in_use_fails i p c used place is =
+      let same : used.0 ≡ is.0 = let h = used.1 in let k = is.1 in cc in
+      inr (subst (λ x. IsBindingRefused es b p x) (sym is.2)
+      (subst (λ n. IsBindingRefused es b p (cause.NameInUse n)) same (steps.IsBindingRefused.in_use i used.2 used.1 place used.3)))
+
+  pub not_read_fails : (w : Written) (fault : ReadFault) (p : Place) (c : Cause) → AreNew es b.names → b.says ≡ Assumed Plain w
+      → IsNotRead es w fault → IsReadRefusal b.place fault p c → BindFails es b p c
+  not_read_fails w read.NotBuilt p c new says h r = inl r.1
+  not_read_fails w (read.Unknown at n) p c new says h r =
+      inr (subst (λ x. IsBindingRefused es b p x) (sym r.1) (subst (λ q. IsBindingRefused es b q (cause.UnknownName n)) (sym r.0) (steps.IsBindingRefused.unknown new says h)))
+  not_read_fails w (read.TooLarge i j) p c new says h r =
+      inr (subst (λ x. IsBindingRefused es b p x) (sym r.1) (subst (λ q. IsBindingRefused es b q (cause.TooLarge i j)) (sym r.0) (steps.IsBindingRefused.too_large new says h)))
+  not_read_fails w read.Memory p c new says h r = inl r.1
+
+  pub not_assumed_fails : (ty : Core) (fault : TypeFault) (p : Place) (c : Cause) → IsContext es → IsRead es b ty → AssumeFails es b.names ty fault
+      → p ≡ b.place → c ≡ cause_of fault → BindFails es b p c
+  not_assumed_fails ty (kernel.NotAType term got) p c context r h at is =
+      inr (subst (λ x. IsBindingRefused es b p x) (sym is) (subst (λ q. IsBindingRefused es b q (cause.NotAType term got)) (sym at) (steps.IsBindingRefused.no_type r h)))
+  not_assumed_fails ty (kernel.Full of held) p c context r h at is =
+      let full : IsBindingRefused es b b.place (cause.Full Entries 65536) = steps.IsBindingRefused.full r (simple_is_type es ty context h.0) h.3 in
+      let exact : IsBindingRefused es b b.place (cause.Full of held) =
+      subst (λ (o : Counted). IsBindingRefused es b b.place (cause.Full o held)) (sym h.1) (subst (λ n. IsBindingRefused es b b.place (cause.Full Entries n)) (sym h.2) full) in
+      inr (subst (λ x. IsBindingRefused es b p x) (sym is) (subst (λ q. IsBindingRefused es b q (cause.Full of held)) (sym at) exact))
+  not_assumed_fails ty (kernel.NameInUse at') p c context r h at is = absurd h
+  not_assumed_fails ty kernel.Memory p c context r h at is = inl is
+
+  pub binds : (ty : Core) (new : List Item) → IsContext es → IsRead es b ty → Assumes es b.names ty new → Binds es b new
+  binds ty new context r a = record { ty = ty; read = r; is_type = simple_is_type es ty context a.simple; room = a.room; makes = a.makes }
+
+-- the places and the names of a binding of the list
+pub places_at : (bs : List Binding) (i : ℕ) (b d : Binding) → HasPlaces (map bound_of bs) → i < length bs → b ≡ get_or bs i d
+    → (length b.places ≡ length b.names) × (0 < length b.names)
+places_at [] i b d h l is = absurd (omega arith)
+places_at (x ∷ bs) zero b d h l is = subst (λ (y : Binding). (length y.places ≡ length y.names) × (0 < length y.names)) (sym is) h.0
+places_at (x ∷ bs) (suc i) b d h l is = places_at bs i b d h.1 (omega arith) is
+
+-- one binding more
+pub binds-more : {es mid new : List Item} {bs : List Bound} {b : Bound} → BindsAll es bs mid → Binds mid b new → BindsAll es (bs ++ b ∷ []) new
+binds-more steps.BindsAll.none m = steps.BindsAll.more m steps.BindsAll.none
+binds-more (steps.BindsAll.more h rest) m = steps.BindsAll.more h (binds-more rest m)
+
+pub refused-after : {es mid : List Item} {bs : List Bound} {b : Bound} {p : Place} {c : Cause} (more : List Bound)
+    → BindsAll es bs mid → IsBindingRefused mid b p c → AreRefused es (bs ++ b ∷ more) mid p c
+refused-after more steps.BindsAll.none r = steps.AreRefused.here r
+refused-after more (steps.BindsAll.more h rest) r = steps.AreRefused.later h (refused-after more rest r)
+
+bound_at : (bs : List Binding) (i : ℕ) (b d : Binding) → i < length bs → b ≡ get_or bs i d → slice_get (map bound_of bs) i ≡ Some (bound_of b)
+bound_at [] i b d l is = absurd (omega arith)
+bound_at (x ∷ bs) zero b d l is = ap (λ y. Some (bound_of y)) (sym is)
+bound_at (x ∷ bs) (suc i) b d l is = bound_at bs i b d (omega arith) is
+
+rest_is : (xs : List Bound) (i : ℕ) (x : Bound) → slice_get xs i ≡ Some x → xs ≡ take i xs ++ x ∷ drop (suc i) xs
+rest_is [] i x h = cc
+rest_is (y ∷ xs) zero x h = let same : y ≡ x = cc in ap (λ z. z ∷ xs) same
+rest_is (y ∷ xs) (suc i) x h = ap (λ zs. y ∷ zs) (rest_is xs i x h)
+
+module _ (old mid : List Item) (bs : List Binding) (i : ℕ) (b d : Binding) (l : i < length bs) (is : b ≡ get_or bs i d)
+    (made : BindsAll old (take i (map bound_of bs)) mid) (front : IsFront old mid) where
+  pub bound-more : (new : List Item) → Binds mid (bound_of b) new → BindsAll old (take (i + 1) (map bound_of bs)) new × IsFront old new
+  bound-more new m = (
+    subst (λ xs. BindsAll old xs new) (sym (next_item (map bound_of bs) i (bound_of b) (bound_at bs i b d l is))) (binds-more made m),
+    subst (IsFront old) (sym m.makes) (front-all old mid Plain b.names m.ty front),
+  )
+
+  pub bind-all-fails : (p : Place) (c : Cause) → BindFails mid (bound_of b) p c → BindAllFails old (map bound_of bs) mid p c
+  bind-all-fails p c f = (
+    elim f [
+      | inl e ↦ inl e
+      | inr r ↦ inr (subst (λ xs. AreRefused old xs mid p c) (sym (rest_is (map bound_of bs) i (bound_of b) (bound_at bs i b d l is)))
+          (refused-after (drop (suc i) (map bound_of bs)) made r))
+    ],
+    front,
+  )

@@ -1,0 +1,124 @@
+-- From what the parser answers to what bytes are, and why they are no command.
+use Rattle.std.proofs.Common.{◌≡◌, ℕ, zero, suc, ◌<◌, ◌≤◌, List, [], ◌∷◌, map, length, slice_get, Some, None, option_map, ◌⊎◌, inl, inr, refl, sym, ap, ◌∙◌, subst, arith, ◌≡◌, false}
+use Rattle.std.proofs.lemmas.Option.{slice_get-map, get_or_from_slice_get}
+use Rattle.lego_base.specs.declared.place.Place.{Place}
+use Rattle.lego_lexer.specs.Tokens.{Tokens, placed, Refused}
+use Rattle.lego_lexer.specs.declared.token.LexFault.{LexFault}
+use Rattle.lego_lexer.specs.declared.token.LexFault.TheVariants as Lex
+use Rattle.lego_lexer.specs.Commands.{CommandText}
+use Rattle.lego_lexer.specs.declared.token.Token.{Token}
+use Rattle.lego_lexer.proofs.Ranges.{token_in_range}
+use Rattle.lego_grammar.specs.Grammar.{Names, Item, item, item_of, Nested, ReadsCommand, IsUnexpected, IsTooDeep}
+use Rattle.lego_grammar.specs.Parsing.{ParsesTo, AreTooMany, IsNoCommand}
+use Rattle.lego_grammar.specs.Written.{Order}
+use Rattle.lego_grammar.specs.declared.fault.ParseFault.{ParseFault}
+use Rattle.lego_grammar.specs.declared.fault.ParseFault.TheVariants as Fault
+use Rattle.lego_session.specs.Commands.{grammar_tokens, HasTokens, IsCommand, IsUnread, IsUnreadBy, lex_place, lex_cause}
+use Rattle.lego_session.specs.Reading.{is_built}
+use Rattle.lego_session.specs.Unread.{HasItsToken, IsUnexpectedToken, IsNotParsed}
+use Rattle.lego_session.specs.declared.refusal.Cause.{Cause}
+use Rattle.lego_session.proofs.TokenLemmas.{tokens_apart}
+use Rattle.std.proofs.lemmas.Option.{same_Some}
+
+-- the tokens of the code, as the grammar sees them
+pub same_items : (bytes : List ℕ) (tokens : List Token) → grammar_tokens (map (placed bytes) tokens) ≡ map (item_of bytes) tokens
+same_items bytes [] = refl
+same_items bytes (t ∷ ts) = ap (λ xs. item_of bytes t ∷ xs) (same_items bytes ts)
+
+-- what stands in a mapped list is mapped
+mapped_at : {A B : Type 0} (f : A → B) (xs : List A) (n : ℕ) (y : B) → slice_get (map f xs) n ≡ Some y → (x : A) × (slice_get xs n ≡ Some x) × (f x ≡ y)
+mapped_at f [] n y h = cc
+mapped_at f (x ∷ xs) zero y h = (x, refl, same_Some (f x) y h)
+mapped_at f (x ∷ xs) (suc n) y h = mapped_at f xs n y h
+
+placed_at : (bytes : List ℕ) (tokens : List Token) (n : ℕ) (t : Token) → slice_get tokens n ≡ Some t → slice_get (map (placed bytes) tokens) n ≡ Some (placed bytes t)
+placed_at bytes tokens n t h = slice_get-map (placed bytes) tokens n ∙ ap (option_map (placed bytes)) h
+
+-- the range of a token lies in the bytes
+pub token_range : (place : Place) (bytes : List ℕ) (tokens : List Token) (n : ℕ) (t : Token) → Tokens place bytes (map (placed bytes) tokens)
+    → slice_get tokens n ≡ Some t → (t.from ≤ t.to) × (t.to ≤ length bytes)
+token_range place bytes tokens n t lexed h =
+    let within : n < length tokens = within_of tokens n t h in
+    let range = subst (λ (x : Token). (x.from < x.to) × (x.to ≤ length bytes)) (get_or_from_slice_get tokens n t t h) (token_in_range place bytes tokens lexed n t within) in
+    (omega (arith, range.0), range.1)
+  where
+    within_of : (xs : List Token) (i : ℕ) (x : Token) → slice_get xs i ≡ Some x → i < length xs
+    within_of [] i x e = cc
+    within_of (y ∷ ys) zero x e = omega arith
+    within_of (y ∷ ys) (suc i) x e = let l = within_of ys i x e in omega (arith, l)
+
+-- a token stands where the parser says
+pub its_token : (held : Names) (bytes : List ℕ) (tokens : List Token) (fault : ParseFault) → IsNoCommand held (map (item_of bytes) tokens) fault → HasItsToken tokens fault
+its_token held bytes tokens (Fault.Unexpected p) h =
+    let x = mapped_at (item_of bytes) tokens h.0 h.1 h.2 in
+    (x.0, record { index = h.0; there = x.1; place = ap (λ (i : Item). i.place) x.2 ∙ h.3 })
+its_token held bytes tokens (Fault.TooDeep p) h = tt
+its_token held bytes tokens Fault.NamesFull h = tt
+its_token held bytes tokens Fault.Memory h = tt
+
+module _ {held : Names} {c : CommandText} where
+  moved : {p q : Place} {k l : Cause} → p ≡ q → k ≡ l → IsUnread held c q l → IsUnread held c p k
+  moved {p} {q} {k} {l} e f h = subst (λ x. IsUnread held c x k) (sym e) (subst (λ x. IsUnread held c q x) (sym f) h)
+
+-- the command that the parser answers
+pub is_command : (names : Names) (place : Place) (bytes : List ℕ) (tokens : List Token) (o : Order)
+    → HasTokens (record { place = place; bytes = bytes }) (map (placed bytes) tokens) → ParsesTo names (map (item_of bytes) tokens) o
+    → IsCommand names (record { place = place; bytes = bytes }) o
+is_command names place bytes tokens o lexed h =
+    let parsed = subst (λ xs. ParsesTo names xs o) (sym (same_items bytes tokens)) h in
+    record { tokens = map (placed bytes) tokens; lexed = lexed; parsed = parsed.parses; shallow = parsed.shallow }
+
+-- why the tokens are no command, as it is answered
+pub not_parsed_unread : (held : Names) (place : Place) (bytes : List ℕ) (tokens : List Token) (fault : ParseFault) (p : Place) (cause : Cause)
+    → HasTokens (record { place = place; bytes = bytes }) (map (placed bytes) tokens) → IsNoCommand held (map (item_of bytes) tokens) fault
+    → IsNotParsed place bytes tokens fault p cause → IsUnreadBy held (record { place = place; bytes = bytes }) p cause
+unfolding is_command
+not_parsed_unread held place bytes tokens (Fault.Unexpected q) p cause lexed h (t, stands, inl memory) = inl memory
+not_parsed_unread held place bytes tokens (Fault.Unexpected q) p cause lexed h (t, stands, inr is) =
+    let items = sym (same_items bytes tokens) in
+    let x = mapped_at (item_of bytes) tokens h.0 h.1 h.2 in
+    let at_q : x.0.place ≡ q = ap (λ (i : Item). i.place) x.2 ∙ h.3 in
+    let one : h.0 ≡ stands.index =
+    tokens_apart lexed.lexed h.0 stands.index (placed bytes x.0) (placed bytes t) (placed_at bytes tokens h.0 x.0 x.1)
+    (placed_at bytes tokens stands.index t stands.there) (at_q ∙ sym stands.place) in
+    let there : slice_get (map (placed bytes) tokens) h.0 ≡ Some (placed bytes t) =
+    ap (slice_get (map (placed bytes) tokens)) one ∙ placed_at bytes tokens stands.index t stands.there in
+    let unexpected = subst (λ xs. IsUnexpected xs h.0) items h.4 in
+    let shallow = subst (λ (xs : List Item). (i : ℕ) → IsTooDeep xs i → ⊥) items h.5 in
+    inr (moved is.0 is.1 (IsUnread.unexpected h.0 lexed unexpected there shallow))
+not_parsed_unread held place bytes tokens (Fault.TooDeep q) p cause lexed h k =
+    let x = mapped_at (item_of bytes) tokens h.0 h.1 h.2 in
+    let at_q : x.0.place ≡ q = ap (λ (i : Item). i.place) x.2 ∙ h.3 in
+    let deep = subst (λ xs. IsTooDeep xs h.0) (sym (same_items bytes tokens)) h.4 in
+    inr (moved (k.0 ∙ sym at_q) k.1 (IsUnread.too_deep h.0 lexed deep (placed_at bytes tokens h.0 x.0 x.1)))
+not_parsed_unread held place bytes tokens Fault.NamesFull p cause lexed h k =
+    let command = is_command h.0 place bytes tokens h.1 lexed h.2 in
+    let many = subst (AreTooMany held) (sym (same_items bytes tokens)) h.3 in
+    inr (moved k.0 k.1 (IsUnread.names_full command many))
+not_parsed_unread held place bytes tokens Fault.Memory p cause lexed h k = inl k
+
+-- a command has a first token
+pub first_token : (names : Names) (bytes : List ℕ) (tokens : List Token) (o : Order) → ParsesTo names (map (item_of bytes) tokens) o
+    → slice_get tokens 0 ≡ None → ⊥
+first_token names bytes [] o h e = empty h.parses.reads h.parses.same
+  where
+    empty : {ts : List Nested} {c : Order} → ReadsCommand names ts c → map item ts ≡ [] → ⊥
+    empty (ReadsCommand.command p act) same = cc
+first_token names bytes (t ∷ ts) o h e = cc
+
+-- a command whose form is not built is refused at its first token
+pub unbuilt_unread : (held names : Names) (place : Place) (bytes : List ℕ) (tokens : List Token) (o : Order) (t : Token) (p : Place) (cause : Cause)
+    → HasTokens (record { place = place; bytes = bytes }) (map (placed bytes) tokens) → ParsesTo names (map (item_of bytes) tokens) o
+    → is_built o.deed ≡ false → slice_get tokens 0 ≡ Some t → IsUnexpectedToken bytes t p cause
+    → IsUnreadBy held (record { place = place; bytes = bytes }) p cause
+unfolding is_command
+unbuilt_unread held names place bytes tokens o t p cause lexed h built there (inl memory) = inl memory
+unbuilt_unread held names place bytes tokens o t p cause lexed h built there (inr is) =
+    inr (moved is.0 is.1 (IsUnread.unbuilt (is_command names place bytes tokens o lexed h) built (placed_at bytes tokens 0 t there)))
+
+-- why the bytes have no tokens
+pub not_lexed_unread : (held : Names) (place : Place) (bytes : List ℕ) (fault : LexFault) (p : Place) (cause : Cause)
+    → length bytes ≤ 65536 → (fault ≡ Lex.Memory) ⊎ Refused place bytes fault → p ≡ lex_place fault place → cause ≡ lex_cause fault
+    → IsUnreadBy held (record { place = place; bytes = bytes }) p cause
+not_lexed_unread held place bytes fault p cause short (inl memory) at is = inl (is ∙ ap lex_cause memory)
+not_lexed_unread held place bytes fault p cause short (inr refused) at is = inr (moved at is (IsUnread.lex short refused))

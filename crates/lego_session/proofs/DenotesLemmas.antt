@@ -1,0 +1,121 @@
+-- The text of a development reads back as its entries.
+use Rattle.std.proofs.Common.{◌≡◌, ℕ, suc, List, [], ◌∷◌, ◌++◌, length, Some, refl, sym, ap, ◌∙◌, subst, arith, append_assoc, length-append}
+use Rattle.std.specs.Prelude.{All}
+use Rattle.std.specs.List.{flat_map}
+use Rattle.std.proofs.lemmas.List.Elements.{All-head, All-tail}
+use Rattle.lego_base.specs.Place.{behind}
+use Rattle.lego_base.specs.declared.place.Place.{Place}
+use Rattle.lego_lexer.specs.Bytes.{Gap}
+use Rattle.lego_lexer.specs.Commands.{CommandText, Cuts, Whole, Unbroken}
+use Rattle.lego_lexer.specs.Tokens.{OfWord, OfSymbol, Reads as Lexes, start}
+use Rattle.lego_lexer.specs.declared.token.Word.TheVariants as Word
+use Rattle.lego_lexer.specs.declared.token.Symbol.TheVariants.{Semicolon}
+use Rattle.lego_lexer.proofs.TokenLemmas.{name_longest, symbol_longest}
+use Rattle.lego_grammar.specs.Grammar.{Names, symbol, word, ReadsAct, ReadsCommand, LoneWord}
+use Rattle.lego_grammar.specs.Written.{Deed}
+use Rattle.lego_kernel.specs.Contexts.{IsContext, AreSimple}
+use Rattle.lego_kernel.specs.Simple.{IsSimple}
+use Rattle.lego_kernel.specs.declared.entry.Entry.{Entry as Item}
+use Rattle.lego_session.specs.Denotes.{ReadsAs, DeclareAll, Denotes}
+use Rattle.lego_session.specs.Names.{IsHeldName, AreKnown}
+use Rattle.lego_session.proofs.DenotesPrintable.{IsPlain, IsPrintable}
+use Rattle.lego_session.specs.Texts.{entry_command, type_text, development_text}
+use Rattle.lego_session.proofs.DenotesEntries.{body_of, body_unbroken, entry_declared}
+use Rattle.lego_session.proofs.DenotesNames.{constant_is, printed_name}
+use Rattle.lego_session.proofs.DenotesTexts.{begins_there, byte_unbroken, quiet_name, name_text_is}
+use Rattle.lego_session.proofs.DenotesTypes.{here, after, lex_one, stops_at, type_read, quiet_text}
+use Rattle.lego_session.proofs.TokenLemmas.{name_form}
+
+abbrev explicit_bytes : List ℕ
+explicit_bytes = 69 ∷ 120 ∷ 112 ∷ 108 ∷ 105 ∷ 99 ∷ 105 ∷ 116 ∷ []
+
+explicit_unbroken : Unbroken explicit_bytes
+explicit_unbroken =
+    byte_unbroken 69 _ refl refl (byte_unbroken 120 _ refl refl (byte_unbroken 112 _ refl refl (byte_unbroken 108 _ refl refl
+    (byte_unbroken 105 _ refl refl (byte_unbroken 99 _ refl refl (byte_unbroken 105 _ refl refl (byte_unbroken 116 _ refl refl Unbroken.none)))))))
+
+explicit_read : (names : Names) (place : Place) → ReadsAs names (record { place = place; bytes = explicit_bytes ++ 59 ∷ [] }) (record { place = place; deed = Deed.Explicit })
+explicit_read names place =
+    let next = after (start place) explicit_bytes in
+    record {
+      tokens = here (start place) explicit_bytes (OfWord Word.Explicit) ∷ here next (59 ∷ []) (OfSymbol Semicolon) ∷ [];
+      lexed = record {
+        end = after next (59 ∷ []);
+        gap = [];
+        reads = lex_one explicit_bytes (59 ∷ []) (begins_there 69 _ refl refl)
+            (name_longest 69 (120 ∷ 112 ∷ 108 ∷ 105 ∷ 99 ∷ 105 ∷ 116 ∷ []) (59 ∷ []) (OfWord Word.Explicit) refl (stops_at 59 [] refl) refl)
+            (lex_one (59 ∷ []) [] (begins_there 59 [] refl refl) (symbol_longest 59 [] Semicolon refl refl refl) Lexes.none);
+        blank = Gap.none;
+      };
+      parsed = record {
+        nested = word 0 place Word.Explicit ∷ symbol 0 next.place Semicolon ∷ [];
+        same = refl;
+        reads = ReadsCommand.command next.place (ReadsAct.alone LoneWord.explicit);
+      };
+    }
+
+newline : Gap (10 ∷ [])
+newline = Gap.blank refl Gap.none
+
+-- the line of an entry, and what is behind it
+line_is : (name ty more : List ℕ) → (((91 ∷ name) ++ 58 ∷ []) ++ ty) ++ 93 ∷ 59 ∷ 10 ∷ [] ++ more ≡ body_of name ty ++ 59 ∷ 10 ∷ more
+line_is name ty more = simp append_assoc
+
+-- the bytes behind a `;` are cut into commands, which declare the entries
+record AreDeclared (names : Names) (es before entries : List Item) (p : Place) : Type 0 where
+  commands : List CommandText
+  cut : Cuts p (10 ∷ flat_map (entry_command names es) entries) commands Whole
+  declares : DeclareAll names before commands entries
+
+module _ (names : Names) (es : List Item) (simple : AreSimple 0 es) (known : AreKnown names es) (printable : IsPrintable es) where
+  one_more : (e : Item) (before rest : List Item) → es ≡ before ++ e ∷ rest → e.number ≡ length before
+      → IsSimple (length before) e.ty → IsPlain e → (n : ℕ) × (e.name ≡ Some n) × IsHeldName names n → (p : Place)
+      → ((q : Place) → AreDeclared names es (before ++ e ∷ []) rest q) → AreDeclared names es before (e ∷ rest) p
+  one_more e before rest split number type plain name p others =
+      let h = name.2 in
+      let constants = constant_is names es before (e ∷ rest) split simple known printable.apart in
+      let text = type_text names es 0 e.ty in
+      let more = flat_map (entry_command names es) rest in
+      let body = body_of h.text text in
+      let quiet = quiet_text names es before constants e.ty type in
+      let unbroken = body_unbroken h.text text (quiet_name h.text (name_text_is h.text (name_form h.text h.is_name))) quiet in
+      let q = behind p (10 ∷ []) in
+      let tail = others (behind p ((10 ∷ []) ++ body ++ 59 ∷ [])) in
+      let begins = begins_there 91 ((h.text ++ 58 ∷ (text ++ 93 ∷ [])) ++ 59 ∷ 10 ∷ more) refl refl in
+      let line : (10 ∷ []) ++ body ++ 59 ∷ 10 ∷ more ≡ 10 ∷ flat_map (entry_command names es) (e ∷ rest) =
+      ap (λ (xs : List ℕ). 10 ∷ xs) (sym (line_is h.text text more)
+      ∙ ap (λ (x : List ℕ). (((91 ∷ x) ++ 58 ∷ []) ++ text) ++ 93 ∷ 59 ∷ 10 ∷ [] ++ more) (sym (printed_name names e name.0 h name.1))) in
+      let r = (type_read names es before constants e.ty type plain.1).0 1 (after (after (after (start q) (91 ∷ [])) h.text) (58 ∷ [])) (93 ∷ 59 ∷ []) (stops_at 93 (59 ∷ []) refl) in
+      record {
+        commands = record { place = q; bytes = body ++ 59 ∷ [] } ∷ tail.commands;
+        cut = subst (λ (xs : List ℕ). Cuts p xs (record { place = q; bytes = body ++ 59 ∷ [] } ∷ tail.commands) Whole) line
+            (Cuts.command newline unbroken begins tail.cut);
+        declares = DeclareAll.more (entry_declared names before q name.0 h text e r number plain name.1) tail.declares;
+      }
+
+  all_declared : (entries before : List Item) → es ≡ before ++ entries → AreSimple (length before) entries → AreKnown names entries → All IsPlain entries
+      → (p : Place) → AreDeclared names es before entries p
+  all_declared [] before split numbers named plain p = record { commands = []; cut = Cuts.whole newline; declares = DeclareAll.none }
+  all_declared (e ∷ rest) before split numbers named plain p =
+      let longer : suc (length before) ≡ length (before ++ e ∷ []) = omega (arith, length-append before (e ∷ [])) in
+      let parts : es ≡ (before ++ e ∷ []) ++ rest = split ∙ sym (append_assoc before (e ∷ []) rest) in
+      one_more e before rest split numbers.0 numbers.1
+      (All-head IsPlain e rest plain)
+      (All-head (λ (x : Item). (n : ℕ) × (x.name ≡ Some n) × IsHeldName names n) e rest named) p
+      (λ q. all_declared rest (before ++ e ∷ []) parts (subst (λ k. AreSimple k rest) longer numbers.2)
+      (All-tail (λ (x : Item). (n : ℕ) × (x.name ≡ Some n) × IsHeldName names n) e rest named) (All-tail IsPlain e rest plain) q)
+
+-- what is printed denotes the entries, wherever it begins
+pub development_denotes : (names : Names) (es : List Item) (place : Place) → AreKnown names es → IsContext es → IsPrintable es
+    → Denotes names place (development_text names es) es
+development_denotes names es place known context printable =
+    let d = all_declared names es context.simple known printable es [] refl context.simple known printable.plain (behind place (explicit_bytes ++ 59 ∷ [])) in
+    record {
+      first = record { place = place; bytes = explicit_bytes ++ 59 ∷ [] };
+      commands = d.commands;
+      cut = Cuts.command Gap.none explicit_unbroken (begins_there 69 _ refl refl) d.cut;
+      order = record { place = place; deed = Deed.Explicit };
+      explicit = explicit_read names place;
+      is_explicit = refl;
+      declares = d.declares;
+    }

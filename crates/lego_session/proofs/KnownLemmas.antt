@@ -1,0 +1,137 @@
+-- The names of entries are held: a numbering that grows keeps them, and bindings add names that were read.
+use Rattle.std.proofs.Common.{◌≡◌, ℕ, List, [], ◌∷◌, ◌++◌, map, Some, refl, sym, ap, ◌∙◌, subst}
+use Rattle.std.specs.Prelude.{slice_get}
+use Rattle.std.specs.List.{AllByRecursion}
+use Rattle.std.proofs.lemmas.List.Elements.{All-weaker, All-push}
+use Rattle.lego_base.specs.declared.place.Place.{Place}
+use Rattle.lego_term.specs.Trees.{Core}
+use Rattle.lego_term.specs.declared.binder.Mark.TheVariants.{Plain}
+use Rattle.lego_lexer.specs.Commands.{CommandText}
+use Rattle.lego_lexer.specs.Tokens.{Placed, Tokens}
+use Rattle.lego_grammar.specs.Grammar.{Names, Nested, Item as Token, item, Parses, NameList, ReadsBinding, ReadsBindings, ReadsAct, ReadsCommand, TermWord, NumberWord, NameWord, LoneWord}
+use Rattle.lego_grammar.specs.Written.{Bound, Deed, NameAt, Order}
+use Rattle.lego_kernel.specs.Entries.{assumption}
+use Rattle.lego_kernel.specs.declared.entry.Entry.{Entry as Item}
+use Rattle.lego_session.specs.Commands.{grammar_tokens, Answers}
+use Rattle.lego_session.specs.Names.{IsHeldName, Grows, AreKnown}
+use Rattle.lego_session.specs.Steps.{assume_all, BindsAll, Step, Answer}
+use Rattle.lego_session.proofs.DenotesNames.{front_at}
+use Rattle.lego_session.proofs.TokenLemmas.{IsTrueName, AreTrueNames, tokens_are_names}
+
+held_more : {old new : Names} (n : ℕ) → Grows old new → IsHeldName old n → IsHeldName new n
+held_more {old} {new} n g h = record {
+  text = h.text;
+  held = ap (λ (names : Names). slice_get names n) g.1 ∙ front_at old g.0 n h.text h.held;
+  is_name = h.is_name;
+}
+
+-- names stay known as the numbering grows
+pub known_more : {old new : Names} (es : List Item) → Grows old new → AreKnown old es → AreKnown new es
+known_more {old} {new} es g known =
+    All-weaker (λ e. (n : ℕ) × (e.name ≡ Some n) × IsHeldName old n) (λ e. (n : ℕ) × (e.name ≡ Some n) × IsHeldName new n)
+    (λ e h. (h.0, h.1, held_more h.0 g h.2)) es known
+
+-- the parser's tokens have true names, as those of the lexer
+abbrev HaveTrueNames : List Nested → Type 0
+HaveTrueNames ts = AllByRecursion (λ t. IsTrueName t.lexeme) ts
+
+nested_names : (nested : List Nested) (tokens : List Placed) → map item nested ≡ grammar_tokens tokens → AreTrueNames tokens → HaveTrueNames nested
+nested_names [] tokens h all = tt
+nested_names (x ∷ nested) [] h all = absurd (cc)
+nested_names (x ∷ nested) (t ∷ tokens) h all =
+    let head : item x ≡ record { lexeme = t.lexeme; place = t.place } = cc in
+    let first : t.lexeme ≡ x.lexeme = sym (ap (λ (k : Token). k.lexeme) head) in
+    let rest : map item nested ≡ grammar_tokens tokens = cc in
+    (subst IsTrueName first all.0, nested_names nested tokens rest all.1)
+
+names_front : (ts us : List Nested) → HaveTrueNames (ts ++ us) → HaveTrueNames ts
+names_front [] us all = tt
+names_front (t ∷ ts) us all = (all.0, names_front ts us all.1)
+
+names_back : (ts us : List Nested) → HaveTrueNames (ts ++ us) → HaveTrueNames us
+names_back [] us all = all
+names_back (t ∷ ts) us all = names_back ts us all.1
+
+abbrev AreHeld : Names → List ℕ → Type 0
+AreHeld names ns = AllByRecursion (IsHeldName names) ns
+
+abbrev AreBoundHeld : Names → List Bound → Type 0
+AreBoundHeld names bs = AllByRecursion (λ b. AreHeld names b.names) bs
+
+list_held : {names : Names} {d : ℕ} {ts : List Nested} {xs : List NameAt} → NameList names d ts xs → HaveTrueNames ts → AreHeld names (map (λ x. x.name) xs)
+list_held (NameList.one {text = text} h) all = (record { text = text; held = h; is_name = all.0 }, tt)
+list_held (NameList.more {text = text} h rest) all = (record { text = text; held = h; is_name = all.0 }, list_held rest all.1.1)
+
+binding_held : {names : Names} {ts : List Nested} {b : Bound} → ReadsBinding names ts b → HaveTrueNames ts → AreHeld names b.names
+binding_held (ReadsBinding.assume p q r {ns = ns} {ts = ts} list type) all = list_held list (names_front ns _ (names_front (ns ++ _) _ all.1))
+binding_held (ReadsBinding.define p q r s {text = text} h body) all = (record { text = text; held = h; is_name = all.1.0 }, tt)
+binding_held (ReadsBinding.define_typed p q r s t {text = text} h body type) all = (record { text = text; held = h; is_name = all.1.0 }, tt)
+
+bindings_held : {names : Names} {ts : List Nested} {bs : List Bound} → ReadsBindings names ts bs → HaveTrueNames ts → AreBoundHeld names bs
+bindings_held (ReadsBindings.one h) all = (binding_held h all, tt)
+bindings_held (ReadsBindings.more {ts = ts} {us = us} h rest) all = (binding_held h (names_front ts us all), bindings_held rest (names_back ts us all))
+
+-- the names that a command binds
+abbrev DeedHeld : Names → Deed → Type 0
+DeedHeld names (Deed.Bindings bs) = AreBoundHeld names bs
+DeedHeld names _ = Unit {0}
+
+act_held : {names : Names} {ts : List Nested} {deed : Deed} → ReadsAct names ts deed → HaveTrueNames ts → DeedHeld names deed
+act_held (ReadsAct.bindings h) all = bindings_held h all
+act_held (ReadsAct.show h) all = tt
+act_held (ReadsAct.with_term TermWord.refine h) all = tt
+act_held (ReadsAct.with_term TermWord.claim h) all = tt
+act_held (ReadsAct.with_term TermWord.equiv h) all = tt
+act_held (ReadsAct.with_term TermWord.hnf h) all = tt
+act_held (ReadsAct.with_term TermWord.normal h) all = tt
+act_held (ReadsAct.with_term TermWord.goal h) all = tt
+act_held (ReadsAct.named_goal h k) all = tt
+act_held (ReadsAct.intros h) all = tt
+act_held (ReadsAct.with_number NumberWord.next) all = tt
+act_held (ReadsAct.with_number NumberWord.undo) all = tt
+act_held (ReadsAct.with_name NameWord.forget h) all = tt
+act_held (ReadsAct.with_name NameWord.discharge h) all = tt
+act_held (ReadsAct.with_name NameWord.save h) all = tt
+act_held (ReadsAct.alone LoneWord.assumption) all = tt
+act_held (ReadsAct.alone LoneWord.save) all = tt
+act_held (ReadsAct.alone LoneWord.kill) all = tt
+act_held (ReadsAct.alone LoneWord.prf) all = tt
+act_held (ReadsAct.alone LoneWord.ctxt) all = tt
+act_held (ReadsAct.alone LoneWord.explicit) all = tt
+act_held (ReadsAct.alone LoneWord.implicit) all = tt
+
+command_held : {names : Names} {ts : List Nested} {o : Order} → ReadsCommand names ts o → HaveTrueNames ts → DeedHeld names o.deed
+command_held (ReadsCommand.command {t = t} {ts = ts} p act) all = act_held act (names_front (t ∷ ts) _ all)
+
+-- each name that a context command binds is held
+pub binding_names_held : {names : Names} {place : Place} {bytes : List ℕ} {tokens : List Placed} {o : Order} (bs : List Bound)
+    → Parses names (grammar_tokens tokens) o → Tokens place bytes tokens → o.deed ≡ Deed.Bindings bs → AreBoundHeld names bs
+binding_names_held {names} {tokens = tokens} bs parses lexed is =
+    subst (DeedHeld names) is (command_held parses.reads (nested_names parses.nested tokens parses.same (tokens_are_names lexed)))
+
+assumed_known : (names : Names) (es : List Item) (ns : List ℕ) (ty : Core) → AreHeld names ns → AreKnown names es → AreKnown names (assume_all es Plain ns ty)
+assumed_known names es [] ty held known = known
+assumed_known names es (n ∷ ns) ty held known =
+    assumed_known names (es ++ assumption es n Plain ty ∷ []) ns ty held.1
+    (All-push (λ e. (m : ℕ) × (e.name ≡ Some m) × IsHeldName names m) es (assumption es n Plain ty) known (n, refl, held.0))
+
+binds_known : (names : Names) {old new : List Item} {bs : List Bound} → BindsAll old bs new → AreBoundHeld names bs → AreKnown names old → AreKnown names new
+binds_known names BindsAll.none held known = known
+binds_known names (BindsAll.more {es = es} {b = b} h rest) held known =
+    binds_known names rest held.1 (subst (AreKnown names) (sym h.makes) (assumed_known names es b.names h.ty held.0 known))
+
+-- the names of the entries stay held where a context command makes more
+pub bound_known : {names : Names} {place : Place} {bytes : List ℕ} {tokens : List Placed} {o : Order} {bs : List Bound} {old new : List Item}
+    → Parses names (grammar_tokens tokens) o → Tokens place bytes tokens → o.deed ≡ Deed.Bindings bs → AreKnown names old → BindsAll old bs new → AreKnown names new
+bound_known {names} {bs = bs} parses lexed is known binds = binds_known names binds (binding_names_held bs parses lexed is) known
+
+step_known : {names : Names} {place : Place} {bytes : List ℕ} {tokens : List Placed} {old new : List Item} {o : Order} {a : Answer}
+    → Step names old o a new → Parses names (grammar_tokens tokens) o → Tokens place bytes tokens → AreKnown names old → AreKnown names new
+step_known (Step.accepted is h) parses lexed known = bound_known parses lexed is known h
+step_known (Step.refused is h) parses lexed known = known
+
+-- a command that is answered leaves entries whose names are held
+pub answered_known : {held names : Names} {old new : List Item} {c : CommandText} {a : Answer}
+    → Answers held old c a names new → AreKnown held old → AreKnown names new
+answered_known {old = old} (Answers.step g command built h) known = step_known h command.parsed command.lexed.lexed (known_more old g known)
+answered_known {old = old} (Answers.unread g h) known = known_more old g known

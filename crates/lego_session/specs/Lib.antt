@@ -1,0 +1,14 @@
+pub mod Names
+pub mod Reading
+pub mod Texts
+pub mod Refusals
+pub mod Steps
+pub mod Binding
+pub mod Commands
+pub mod Unread
+pub mod Denotes
+pub mod Runs
+pub mod Headline
+pub mod Statuses
+pub mod Outcomes
+pub mod Progress

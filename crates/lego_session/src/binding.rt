@@ -1,0 +1,184 @@
+//! The bindings of a context command: assumptions, each of one type for all its names.
+ghost use Rattle.std.specs.Prelude.{◌≡◌, ◌<◌, true, map, length, slice_get, Some, ℕ, ◌||◌, nat_eq, is_some, OnOk, OnErr, IfOk, IfErr};
+ghost use Rattle.std.specs.List.{list_all, list_any};
+ghost use Rattle.lego_grammar.specs.Surface.{bound_of, says_of};
+ghost use Rattle.lego_kernel.specs.Entries.{position_of};
+ghost use Rattle.lego_kernel.specs.Simple.{IsSimpleOver};
+ghost use Rattle.lego_session.specs.Reading.{is_simple_assumption};
+ghost use Rattle.lego_session.specs.Steps.{AreNew, Binds, BindsAll, HasPlaces};
+ghost use Rattle.lego_session.specs.Binding.{IsFirstUsed, Assumes, AssumeFails, IsFront, IsReadRefusal, cause_of, BindFails, BindAllFails};
+
+use crate::reading::{ReadFault, core_of};
+use crate::refusal::Cause;
+use indexmap::IndexSet;
+use lego_base::Place;
+use lego_grammar::{Binding, BindingKind};
+use lego_kernel::{At, Context, TypeFault};
+use lego_term::{Mark, Term};
+use std::alloc::{AllocError, Global};
+
+/// Why a binding is refused, and where.
+#[derive(Drop)]
+pub(crate) struct BindFault {
+    pub place: Place,
+    pub cause: Cause,
+}
+
+/// Makes the entries of all the bindings; a refused one leaves those of the bindings before.
+pub(crate) fn bind_all(
+    alloc: Global,
+    context: &mut Context,
+    bindings: &[Binding],
+    limit: u64,
+) -> Result<(), BindFault>
+    requires built { list_all (λ b. is_simple_assumption (says_of b.kind)) bindings.now ≡ true }
+    requires written { HasPlaces (map bound_of bindings.now) }
+    ensures ok { OnOk result (BindsAll context.old (map bound_of bindings.now) context.new) }
+    ensures cause { IfErr result (λ fault. BindAllFails context.old (map bound_of bindings.now) context.new fault.place fault.cause) }
+{
+    for binding in bindings {
+        if let Err(fault) = bind(alloc, context, binding, limit) {
+            return Err(fault);
+        }
+    }
+    Ok(())
+}
+
+/// Makes the entries of one binding, or none.
+fn bind(
+    alloc: Global,
+    context: &mut Context,
+    binding: &Binding,
+    limit: u64,
+) -> Result<(), BindFault>
+    requires built { is_simple_assumption (says_of binding.now.kind) ≡ true }
+    requires places { length binding.now.places ≡ length binding.now.names }
+    requires some { 0 < length binding.now.names }
+    ensures ok { OnOk result (Binds context.old (bound_of binding.now) context.new) }
+    ensures cause { IfErr result (λ fault. BindFails context.old (bound_of binding.now) fault.place fault.cause) }
+    ensures err { OnErr result (context.new ≡ context.old) }
+{
+    let place = binding.place;
+    let names = binding.names.items();
+    let Ok(used) = first_used(alloc, context, names) else {
+        return Err(memory(place));
+    };
+    if let Some(at) = used {
+        return Err(in_use(binding, at));
+    }
+    let BindingKind::Assume { ty, .. } = &binding.kind else {
+        unreachable!()
+    };
+    let ty = match core_of(alloc, context, ty) {
+        Ok(ty) => ty,
+        Err(fault) => return Err(not_read(place, fault)),
+    };
+    let before = context.len();
+    match assume_names(context, names, &ty, At { place, limit }) {
+        Ok(()) => Ok(()),
+        Err(fault) => {
+            context.forget(before);
+            Err(not_assumed(place, fault))
+        }
+    }
+}
+
+/// The first name that an entry has or that stands earlier in the list.
+fn first_used(alloc: Global, context: &Context, names: &[u32]) -> Result<Option<usize>, AllocError>
+    ensures { IfOk result (λ used. IsFirstUsed context.now names.now used) }
+{
+    let mut seen = IndexSet::new(alloc);
+    for i in 0..names.len() {
+        let name = names[i];
+        if is_used(context, &seen, name) {
+            return Ok(Some(i));
+        }
+        let Ok(_) = seen.insert(name) else {
+            return Err(AllocError);
+        };
+    }
+    Ok(None)
+}
+
+/// Whether an entry has the name, or it was seen.
+fn is_used(context: &Context, seen: &IndexSet<u32>, name: u32) -> bool
+    ensures { result ≡ (is_some (position_of context.now name) || list_any (nat_eq name) seen.now.keys) }
+{
+    context.position(name).is_some() || seen.contains(&name)
+}
+
+/// Adds an assumption of the type for each name, of which none is in use.
+fn assume_names(context: &mut Context, names: &[u32], ty: &Term, at: At) -> Result<(), TypeFault>
+    requires simple { IsSimpleOver context.old ty.now }
+    requires new { AreNew context.old names.now }
+    requires some { 0 < length names.now }
+    ensures ok { OnOk result (Assumes context.old names.now ty.now context.new) }
+    ensures cause { IfErr result (λ fault. AssumeFails context.old names.now ty.now fault) }
+    ensures front { IsFront context.old context.new }
+{
+    let _entries = context.len();
+    for i in 0..names.len() {
+        if let Err(fault) = context.assume(names[i], Mark::Plain, ty, at) {
+            return Err(fault);
+        }
+    }
+    Ok(())
+}
+
+/// The refusal of the name at a place of the list.
+fn in_use(binding: &Binding, at: usize) -> BindFault
+    requires places { at < length binding.now.places }
+    requires names { at < length binding.now.names }
+    ensures place { slice_get binding.now.places at ≡ Some result.place }
+    ensures cause { (n : ℕ) × (slice_get binding.now.names at ≡ Some n) × (result.cause ≡ Cause.NameInUse n) }
+{
+    BindFault {
+        place: binding.places.items()[at],
+        cause: Cause::NameInUse {
+            name: binding.names.items()[at],
+        },
+    }
+}
+
+/// The refusal of a written type that is not read.
+fn not_read(place: Place, fault: ReadFault) -> BindFault
+    ensures { IsReadRefusal place fault result.place result.cause }
+{
+    match fault {
+        ReadFault::NotBuilt => memory(place),
+        ReadFault::Unknown { place, name } => BindFault {
+            place,
+            cause: Cause::UnknownName { name },
+        },
+        ReadFault::TooLarge { size, depth } => BindFault {
+            place,
+            cause: Cause::TooLarge { size, depth },
+        },
+        ReadFault::Memory => memory(place),
+    }
+}
+
+/// The refusal of an assumption.
+fn not_assumed(place: Place, fault: TypeFault) -> BindFault
+    ensures place { result.place ≡ place }
+    ensures cause { result.cause ≡ cause_of fault }
+{
+    let cause = match fault {
+        TypeFault::NotAType { term, got } => Cause::NotAType { term, got },
+        TypeFault::Full { of, held } => Cause::Full { of, held },
+        TypeFault::NameInUse { .. } => Cause::Memory,
+        TypeFault::Memory => Cause::Memory,
+    };
+    BindFault { place, cause }
+}
+
+/// Memory ran out.
+fn memory(place: Place) -> BindFault
+    ensures place { result.place ≡ place }
+    ensures cause { result.cause ≡ Cause.Memory }
+{
+    BindFault {
+        place,
+        cause: Cause::Memory,
+    }
+}

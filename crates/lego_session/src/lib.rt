@@ -1,0 +1,21 @@
+//! A session of commands, and the run of a script.
+#![tactic(auto)]
+
+mod answer;
+mod binding;
+mod reading;
+mod refusal;
+mod refusal_text;
+mod running;
+mod script;
+mod session;
+mod status;
+#[cfg(test)]
+mod tests;
+mod text;
+mod unread;
+
+pub use refusal::{Cause, Refusal};
+pub use running::run;
+pub use session::{Answer, Session};
+pub use status::Status;

@@ -1,0 +1,92 @@
+//! Refusals of commands.
+
+ghost use Rattle.std.specs.Prelude.{◌≡◌, []};
+ghost use Rattle.lego_session.specs.Refusals.{IsRefusedBy};
+
+use crate::refusal_text::refusal_text;
+use lego_base::{Names, Place};
+use lego_kernel::{Context, Counted};
+use lego_term::{List, Seen};
+use std::alloc::Global;
+
+/// Why a command is refused.
+#[derive(Drop)]
+pub enum Cause {
+    /// A byte that begins no token.
+    BadByte { byte: u8 },
+    /// A comment that does not end.
+    OpenComment,
+    /// A name of more than 255 bytes.
+    LongName,
+    /// A numeral above 1,000,000.
+    BigLevel,
+    /// The first token after which no reading exists, or the first token of a command whose
+    /// form is not built.
+    Unexpected { token: List<u8> },
+    /// The first token of nesting 501.
+    TooDeep,
+    /// A command without its `;`.
+    Unended,
+    /// A command of so many bytes, which are more than 65,536.
+    LongCommand { bytes: u64 },
+    /// More than 1,048,576 names.
+    NamesFull,
+    /// A name that no entry has.
+    UnknownName { name: u32 },
+    /// A name that an entry has, or that stands earlier in the same list.
+    NameInUse { name: u32 },
+    /// `term` stands where a type is wanted, and its rule type `got` is no sort.
+    NotAType { term: Seen, got: Seen },
+    /// A term of this size and depth, one of which is over its limit.
+    TooLarge { size: u64, depth: u32 },
+    /// `held` are held, which is the limit.
+    Full { of: Counted, held: u32 },
+    /// Memory ran out.
+    Memory,
+}
+
+/// A refused command: where, why, and the text of the answer, which is empty where memory
+/// ran out. The state is as before.
+#[derive(Drop)]
+pub struct Refusal {
+    pub place: Place,
+    pub cause: Cause,
+    pub text: List<u8>,
+}
+
+impl Refusal {
+    /// The refusal for want of memory.
+    pub(crate) fn memory(alloc: Global, place: Place) -> Refusal
+        ensures cause { result.cause ≡ Cause.Memory }
+        ensures text { result.text ≡ [] }
+    {
+        Refusal {
+            place,
+            cause: Cause::Memory,
+            text: List::of(Vec::new(alloc)),
+        }
+    }
+
+    /// The refusal for a cause, with the names of the context's entries in its text.
+    pub(crate) fn of(
+        alloc: Global,
+        names: &Names,
+        context: &Context,
+        place: Place,
+        cause: Cause,
+    ) -> Refusal
+        ensures { IsRefusedBy names.now context.now place cause result.place result.cause result.text }
+    {
+        if let Cause::Memory = cause {
+            return Refusal::memory(alloc, place);
+        }
+        match refusal_text(alloc, names, context, place, &cause) {
+            Ok(text) => Refusal {
+                place,
+                cause,
+                text: List::of(text),
+            },
+            Err(_) => Refusal::memory(alloc, place),
+        }
+    }
+}
