@@ -6,10 +6,11 @@ use Rattle.lego_lexer.specs.declared.token.Symbol.TheVariants.{CloseSquare, Semi
 use Rattle.lego_grammar.specs.Written.{Bound, Deed, Order}
 use Rattle.lego_grammar.specs.Grammar.{Names, Nested, Item, item, symbol, ReadsCommand, IsContext}
 use Rattle.lego_grammar.specs.Machine.{Frame, Mode, Start, Want, Between, Done, State, state, move}
-use Rattle.lego_grammar.proofs.Transitions.{class, Move}
+use Rattle.lego_grammar.specs.Scanning.{class, goes}
+use Rattle.lego_grammar.proofs.Transitions.{Move}
 use Rattle.lego_grammar.proofs.Moving.{move_from}
 use Rattle.lego_grammar.proofs.Unique.{behind_square, context_ends}
-use Rattle.lego_grammar.proofs.Beginnings.{goes, ran, texts, known_texts, map-both}
+use Rattle.lego_grammar.proofs.Beginnings.{ran, texts, known_texts, map-both}
 use Rattle.lego_grammar.proofs.Sides.{Elsewhere, run_elsewhere}
 use Rattle.lego_grammar.proofs.Scans.{Begin, finished, goes_append}
 use Rattle.lego_grammar.proofs.Prevailing.{end, begins_context, operand_end}
@@ -63,5 +64,5 @@ not_both is {st} {so} d e m g =
     go nested c (ReadsCommand.command {t} {ts} p r) k same =
         let y = context_ends r k in
         let items : (map item y.0 ++ item y.1 ∷ []) ++ end p ∷ [] ≡ is =
-            ap (λ l. l ++ end p ∷ []) (sym (map-both y.0 (y.1 ∷ []))) ∙ (ap (λ l. map item l ++ end p ∷ []) (sym y.2) ∙ (sym (map-both (t ∷ ts) (symbol 0 p Semicolon ∷ [])) ∙ same)) in
+        ap (λ l. l ++ end p ∷ []) (sym (map-both y.0 (y.1 ∷ []))) ∙ (ap (λ l. map item l ++ end p ∷ []) (sym y.2) ∙ (sym (map-both (t ∷ ts) (symbol 0 p Semicolon ∷ [])) ∙ same)) in
         not_over (map item y.0) y.1.lexeme y.1.place p y.3 (goes (map item y.0) (Some (state Start []))) refl (ap (λ l. goes l (Some (state Start []))) items ∙ g)

@@ -9,9 +9,10 @@ use Rattle.lego_grammar.specs.declared.surface.Kind.TheVariants.{Lambda, Pi, Sig
 use Rattle.lego_grammar.specs.Written.{Written, Deed, Order}
 use Rattle.lego_grammar.specs.Grammar.{Names, Nested, Item, item, Parses, IsContext, EndsInBinding, Prevails}
 use Rattle.lego_grammar.specs.Machine.{Frame, ApplyTo, HashFrom, ArrowFrom, BodyOf, BodyWith, Whole, Mode, Start, Want, Behind, WantPart, WantGoal, WantLevel, CloseLevel, WantName, BehindName, Between, Done, State, state, settled, summed, closed, wrapped}
+use Rattle.lego_grammar.specs.Scanning.{Inside, goes, start_of}
 use Rattle.lego_grammar.proofs.Transitions.{Operand, Closes, Move, WaitingWord, Runs}
-use Rattle.lego_grammar.proofs.Complete.{start_of, complete_command}
-use Rattle.lego_grammar.proofs.Beginnings.{goes, texts, unexpected_at}
+use Rattle.lego_grammar.proofs.Complete.{complete_command}
+use Rattle.lego_grammar.proofs.Beginnings.{texts, unexpected_at}
 use Rattle.lego_grammar.proofs.Sides.{Bound, InBindings, run_in_bindings}
 use Rattle.lego_grammar.proofs.Scans.{Begin, holds_at, kind, finished, begun}
 use Rattle.lego_grammar.proofs.Prevailing.{Prevailing, end, begins_context}
@@ -148,12 +149,6 @@ bound_depth (ArrowFrom a ∷ fs) h = bound_depth fs h
 bound_depth (BodyOf k m ns a ∷ fs) h = bound_depth fs h
 bound_depth (BodyWith n a ∷ fs) h = bound_depth fs h
 bound_depth (f ∷ fs) h = omega arith
-
--- the modes of a context command that stand inside a binding
-abbrev pub Inside : Mode → Type 0
-Inside (Between _) = ⊥
-Inside (Done _) = ⊥
-Inside _ = Unit {0}
 
 inside_unclosed : (m : Mode) (fs : List Frame) → InBindings m fs → Inside m → 1 ≤ unclosed m fs
 inside_unclosed (Between bs) fs h k = absurd k

@@ -5,18 +5,13 @@ use Rattle.lego_lexer.specs.Tokens.{Lexeme, Name, Number, OfWord, OfSymbol}
 use Rattle.lego_grammar.specs.Written.{Deed}
 use Rattle.lego_grammar.specs.Grammar.{Names, Nested, Item, item, GoesOn, IsUnexpected}
 use Rattle.lego_grammar.specs.Machine.{Frame, Mode, Start, Between, State, state, move}
-use Rattle.lego_grammar.proofs.Transitions.{class, Fits, Runs, runs_on}
-use Rattle.lego_grammar.proofs.Complete.{start_of, complete_command}
+use Rattle.lego_grammar.specs.Scanning.{class, goes, start_of}
+use Rattle.lego_grammar.proofs.Transitions.{Fits, Runs, runs_on}
+use Rattle.lego_grammar.proofs.Complete.{complete_command}
 use Rattle.lego_grammar.proofs.Sound.{Holds, step}
 use Rattle.lego_grammar.proofs.Finish.{finish}
 use Rattle.lego_grammar.proofs.Moving.{move_to, move_from}
 use Rattle.lego_grammar.proofs.Unique.{fits_zero}
-
--- the machine over tokens, of which it follows only the shape
-abbrev pub goes : List Item → Option State → Option State
-goes is None = None
-goes [] (Some st) = Some st
-goes (i ∷ is) (Some st) = goes is (move false (class i.lexeme) i.place 0 st)
 
 -- the names have the text of a name
 abbrev pub Has : Names → Lexeme → Type 0

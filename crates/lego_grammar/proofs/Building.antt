@@ -3,7 +3,8 @@ use Rattle.std.proofs.Common.{◌≡◌, ℕ, List, [], ◌∷◌, ◌++◌, tru
 use Rattle.lego_grammar.specs.Written.{Deed, Order}
 use Rattle.lego_grammar.specs.Grammar.{Names, Nested, Item, item, ReadsCommand, Parses}
 use Rattle.lego_grammar.specs.Machine.{Mode, Done, State, state, move}
-use Rattle.lego_grammar.proofs.Transitions.{class, Fits}
+use Rattle.lego_grammar.specs.Scanning.{class}
+use Rattle.lego_grammar.proofs.Transitions.{Fits}
 use Rattle.lego_grammar.proofs.Sound.{Holds, step}
 use Rattle.lego_grammar.proofs.Moving.{move_from}
 use Rattle.lego_grammar.proofs.Unique.{kept_whole}

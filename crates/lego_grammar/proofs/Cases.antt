@@ -8,10 +8,11 @@ use Rattle.lego_lexer.specs.declared.token.Symbol.TheVariants.{Semicolon}
 use Rattle.lego_grammar.specs.Written.{Bound, Deed}
 use Rattle.lego_grammar.specs.Grammar.{Names, Nested, Item, item, ReadsBindings}
 use Rattle.lego_grammar.specs.Machine.{Frame, Mode, Start, Between, Done, State, state, move}
+use Rattle.lego_grammar.specs.Scanning.{goes}
 use Rattle.lego_grammar.proofs.Complete.{kept_bound}
 use Rattle.lego_grammar.proofs.Sound.{Holds}
 use Rattle.lego_grammar.proofs.Moving.{move_from}
-use Rattle.lego_grammar.proofs.Beginnings.{goes, ran, texts, known_texts, holds}
+use Rattle.lego_grammar.proofs.Beginnings.{ran, texts, known_texts, holds}
 use Rattle.lego_grammar.proofs.Depths.{the}
 use Rattle.lego_grammar.proofs.Scans.{Begin, holds_at, goes_append}
 use Rattle.lego_grammar.proofs.Prevailing.{Prevailing, Over, end, ends, context_inside, other_outside}
@@ -79,6 +80,6 @@ ends_done is p m {s} e = go (goes is start) refl
     go None k = absurd (none_some (sym (ap (λ z. goes (end p ∷ []) z) k) ∙ (sym (goes_append is (end p ∷ []) start) ∙ e)))
     go (Some s0) k =
         let one : move false (Token.Symbol Semicolon) p 0 s0 ≡ Some s =
-            sym (goes_nil (move false (Token.Symbol Semicolon) p 0 s0)) ∙ (sym (ap (λ z. goes (end p ∷ []) z) k) ∙ (sym (goes_append is (end p ∷ []) start) ∙ e)) in
+        sym (goes_nil (move false (Token.Symbol Semicolon) p 0 s0)) ∙ (sym (ap (λ z. goes (end p ∷ []) z) k) ∙ (sym (goes_append is (end p ∷ []) start) ∙ e)) in
         let x = move_from false (OfSymbol Semicolon) p 0 s0.mode s0.frames one in
         over s.mode (ends x.1 refl)

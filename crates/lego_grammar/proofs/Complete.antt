@@ -16,6 +16,7 @@ use Rattle.lego_grammar.specs.Written.{Written, Named, WrittenProp, Bind, Local,
 use Rattle.lego_grammar.specs.Grammar as G
 use Rattle.lego_grammar.specs.Grammar.{Names, Nested, token, symbol, word, NameList, Form, Term, Ending, Tail, Spine, Post, Atom, Binder, Reads, ReadsBinding, ReadsBindings, ReadsNames, ReadsAct, ReadsCommand, places_of, names_of}
 use Rattle.lego_grammar.specs.Machine.{Site, InTerm, InContext, Use, ToShow, ToRefine, ToClaim, ToEquiv, ToHead, ToNormal, ToGoal, deed_of, Frame, ApplyTo, HashFrom, ArrowFrom, BodyOf, BodyWith, Parens, SecondOf, TypeOf, DomainOf, ValueOf, StatedFor, Whole, Mode, Start, Want, WantLevel, Behind, WantPart, WantName, BehindName, Between, BehindGoal, BehindGoalName, WantIntros, Done, keep, number, height, settled, summed, closed}
+use Rattle.lego_grammar.specs.Scanning.{start_of}
 use Rattle.lego_grammar.proofs.Transitions.{Operand, Closes, Move, Fits, TermWord, WaitingWord, Runs, runs_on, run_one}
 
 -- what is kept of a tree and of its parts
@@ -78,11 +79,6 @@ kept_deed b (Deed.Save name) = Deed.Save (option_map (number b) name)
 kept_deed b (Deed.Forget x) = Deed.Forget (kept_at b x)
 kept_deed b (Deed.Discharge x) = Deed.Discharge (kept_at b x)
 kept_deed b deed = deed
-
--- where a command with this deed begins
-abbrev pub start_of : Deed → Mode
-start_of (Deed.Bindings bs) = Between []
-start_of _ = Start
 
 -- the same number, by matching
 pub data Same (n : ℕ) : ℕ → Type 0 where

@@ -15,12 +15,13 @@ use Rattle.lego_grammar.specs.Grammar.{Names, Nested, Item, item, ReadsCommand, 
 use Rattle.lego_grammar.specs.Parsing.{ParsesTo, IsNoCommand}
 use Rattle.lego_grammar.specs.declared.fault.ParseFault.TheVariants as Fault
 use Rattle.lego_grammar.specs.Machine.{Frame, Mode, Done, State, state, level}
+use Rattle.lego_grammar.specs.Scanning.{Shallow, goes, start_of}
 use Rattle.lego_grammar.proofs.Transitions.{Runs, runs_on}
-use Rattle.lego_grammar.proofs.Complete.{kept_deed, start_of, complete_command}
+use Rattle.lego_grammar.proofs.Complete.{kept_deed, complete_command}
 use Rattle.lego_grammar.proofs.Unique.{split, one_nesting}
 use Rattle.lego_grammar.proofs.Refusals.{one_unexpected}
-use Rattle.lego_grammar.proofs.Beginnings.{goes, gone, map-both}
-use Rattle.lego_grammar.proofs.Depths.{Shallow, Entry, the, deep_at, low_at, all_low}
+use Rattle.lego_grammar.proofs.Beginnings.{gone, map-both}
+use Rattle.lego_grammar.proofs.Depths.{Entry, the, deep_at, low_at, all_low}
 use Rattle.lego_grammar.proofs.Scans.{Begin, finished, no_move}
 use Rattle.lego_grammar.proofs.Prevailing.{Prevailing}
 
@@ -148,7 +149,7 @@ unread_too_deep tokens n i m {st} {s} p on l h g deep sh =
     record {
       nested = f.nested ++ next ∷ [];
       so = NestedSo.unread {names = f.names} f.nested more next (subst (λ k. IsUnexpected tokens k) (sym n_is) p.unexpected) (f.same ∙ ap (λ k. take k tokens) (sym n_is))
-      (subst (λ k. Prevails (take k tokens) f.command.deed) (sym n_is) (p.prevails f.command.deed f.start)) reads;
+          (subst (λ k. Prevails (take k tokens) f.command.deed) (sym n_is) (p.prevails f.command.deed f.start)) reads;
       token = d.token;
       there = seen i h ∙ d.there;
       deep = d.deep;
@@ -181,7 +182,7 @@ within tokens n i m {st} p x = go x.nested x.so x.there
         let size : length nested ≡ n = one_unexpected tokens (length nested) n u p.unexpected in
         let same : map item nested ≡ take n tokens = e ∙ ap (λ k. take k tokens) size in
         let parses : Parses names (take n tokens ++ map item (next ∷ more)) c =
-            record { nested = nested ++ next ∷ more; same = map-both nested (next ∷ more) ∙ ap (λ l. l ++ map item (next ∷ more)) same; reads = r } in
+        record { nested = nested ++ next ∷ more; same = map-both nested (next ∷ more) ∙ ap (λ l. l ++ map item (next ∷ more)) same; reads = r } in
         let start : start_of c.deed ≡ m = p.only names (map item (next ∷ more)) c parses (subst (λ k. Prevails (take k tokens) c.deed) size v) in
         let in_front : i < length (nested ++ next ∷ []) = slice_get_within (nested ++ next ∷ []) i x.token g in
         let front_size = length-append nested (next ∷ []) in

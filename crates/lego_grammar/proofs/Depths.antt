@@ -4,11 +4,11 @@ use Rattle.std.specs.Prelude.{All, slice_index_or}
 use Rattle.std.proofs.lemmas.Bool.{cases_lt}
 use Rattle.lego_grammar.specs.Grammar.{Names, Nested, Item, item}
 use Rattle.lego_grammar.specs.Machine.{Frame, Mode, State, state, move, level}
-use Rattle.lego_grammar.proofs.Transitions.{class, Fits, Move, Runs}
+use Rattle.lego_grammar.specs.Scanning.{Shallow, class, goes}
+use Rattle.lego_grammar.proofs.Transitions.{Fits, Move, Runs}
 use Rattle.lego_grammar.proofs.Nesting.{Opens, Follows, at_level, is_below, follows}
 use Rattle.lego_grammar.proofs.Moving.{move_to}
 use Rattle.lego_grammar.proofs.Unique.{fits_zero}
-use Rattle.lego_grammar.proofs.Beginnings.{goes}
 
 pub the : {X : Type 0} {x y : X} → Some x ≡ Some y → x ≡ y
 the {X} {x} e = ap get e
@@ -16,10 +16,6 @@ the {X} {x} e = ap get e
     get : Option X → X
     get (Some z) = z
     get None = x
-
--- the states before the first n tokens are at most 500 levels deep
-abbrev pub Shallow : Mode → List Frame → List Item → ℕ → Type 0
-Shallow m fs is n = (j : ℕ) (s : State) → j < n → goes (take j is) (Some (state m fs)) ≡ Some s → level s ≤ 500
 
 -- a state within the limit, or the first one above it
 abbrev pub Entry : Mode → List Frame → Type 0

@@ -15,7 +15,8 @@ use Rattle.lego_grammar.specs.declared.surface.Part.TheVariants.{First, Second}
 use Rattle.lego_grammar.specs.Written.{Written, Named, Project, Bound}
 use Rattle.lego_grammar.specs.Grammar.{Nested, token, MayBind}
 use Rattle.lego_grammar.specs.Machine.{Site, InTerm, InContext, Use, ToShow, ToGoal, Frame, ApplyTo, Parens, SecondOf, TypeOf, DomainOf, ValueOf, StatedFor, Whole, Mode, Start, Want, WantLevel, CloseLevel, Behind, WantPart, WantGoal, WantName, BehindName, Between, BehindGoal, BehindGoalName, WantIntros, WantNext, WantUndo, WantForget, WantDischarge, BehindSave, WantEnd, Done, State, state, moves, keep, height, settled, summed, closed, operand, closes, closes_top, behind, behind_paren, behind_name, starts, acts, part, between, level_closes, goal_numbered, names_one, move}
-use Rattle.lego_grammar.proofs.Transitions.{class, Applies, Operand, Closes, Move, TermWord, WaitingWord, kind_of}
+use Rattle.lego_grammar.specs.Scanning.{class}
+use Rattle.lego_grammar.proofs.Transitions.{Applies, Operand, Closes, Move, TermWord, WaitingWord, kind_of}
 use Rattle.lego_grammar.proofs.Complete.{height-settled}
 
 eq_of : (i j : ℕ) → nat_eq i j ≡ true → i ≡ j

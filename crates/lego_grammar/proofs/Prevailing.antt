@@ -9,11 +9,11 @@ use Rattle.lego_grammar.specs.declared.surface.Kind.TheVariants.{Lambda, Pi, Sig
 use Rattle.lego_grammar.specs.Written.{Written, Deed, Order}
 use Rattle.lego_grammar.specs.Grammar.{Names, Nested, Item, item, ReadsCommand, Parses, IsUnexpected, IsContext, EndsInBinding, Prevails}
 use Rattle.lego_grammar.specs.Machine.{Frame, Mode, Start, Between, Done, State, state, move}
+use Rattle.lego_grammar.specs.Scanning.{goes, start_of}
 use Rattle.lego_grammar.proofs.Transitions.{Closes, Operand, Move}
-use Rattle.lego_grammar.proofs.Complete.{start_of}
 use Rattle.lego_grammar.proofs.Sound.{Holds}
 use Rattle.lego_grammar.proofs.Moving.{move_from}
-use Rattle.lego_grammar.proofs.Beginnings.{goes, ran, texts, known_texts, holds, unexpected_at}
+use Rattle.lego_grammar.proofs.Beginnings.{ran, texts, known_texts, holds, unexpected_at}
 use Rattle.lego_grammar.proofs.Scans.{Begin, holds_at, kind, finished, begun, goes_append, begins_not, none_on}
 
 -- a `;`

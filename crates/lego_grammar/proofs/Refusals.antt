@@ -5,8 +5,9 @@ use Rattle.std.proofs.lemmas.Option.{slice_get_within}
 use Rattle.lego_grammar.specs.Written.{Order}
 use Rattle.lego_grammar.specs.Grammar.{Names, Nested, Item, item, ReadsCommand, Parses, GoesOn, IsUnexpected, IsContext, Prevails, NestedSo, IsTooDeep}
 use Rattle.lego_grammar.specs.Machine.{Done}
+use Rattle.lego_grammar.specs.Scanning.{start_of}
 use Rattle.lego_grammar.proofs.Transitions.{Runs}
-use Rattle.lego_grammar.proofs.Complete.{kept_deed, start_of, complete_command}
+use Rattle.lego_grammar.proofs.Complete.{kept_deed, complete_command}
 use Rattle.lego_grammar.proofs.Unique.{fits_zero, same_run, split, same_start, one_nesting}
 use Rattle.lego_grammar.proofs.Beginnings.{map-both}
 

@@ -3,9 +3,9 @@ use Rattle.std.proofs.Common.{◌≡◌, ◌⊎◌, inl, inr, ℕ, zero, suc, �
 use Rattle.std.proofs.Math.Nat.{eq-or-lt_of_le}
 use Rattle.lego_grammar.specs.Grammar.{Item}
 use Rattle.lego_grammar.specs.Machine.{Frame, Mode, State, state, move, level}
-use Rattle.lego_grammar.proofs.Transitions.{class}
-use Rattle.lego_grammar.proofs.Beginnings.{goes, goes_none}
-use Rattle.lego_grammar.proofs.Depths.{Shallow, the}
+use Rattle.lego_grammar.specs.Scanning.{Shallow, class, goes}
+use Rattle.lego_grammar.proofs.Beginnings.{goes_none}
+use Rattle.lego_grammar.proofs.Depths.{the}
 
 none_some : {X : Type 0} {x : X} {A : Type 0} → ◌≡◌ {A = Option X} None (Some x) → A
 none_some e = cc

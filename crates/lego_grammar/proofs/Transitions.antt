@@ -14,13 +14,7 @@ use Rattle.lego_grammar.specs.declared.surface.Part.TheVariants.{First, Second}
 use Rattle.lego_grammar.specs.Written.{Written, Named, WrittenProp, AnyType, TypeAt, GoalAt, Couple, Project, Says, Assumed, Defined, Bound, Deed}
 use Rattle.lego_grammar.specs.Grammar.{Names, Nested, token, symbol, word, opening, closing, sign, MayBind}
 use Rattle.lego_grammar.specs.Machine.{Site, InTerm, InContext, Use, ToShow, ToRefine, ToClaim, ToEquiv, ToHead, ToNormal, ToGoal, deed_of, Frame, ApplyTo, HashFrom, ArrowFrom, BodyOf, BodyWith, Parens, SecondOf, TypeOf, DomainOf, ValueOf, StatedFor, Whole, Mode, Start, Want, WantLevel, CloseLevel, Behind, WantPart, WantGoal, WantName, BehindName, Between, BehindGoal, BehindGoalName, WantIntros, WantNext, WantUndo, WantForget, WantDischarge, BehindSave, WantEnd, Done, keep, number, height, settled, summed, closed}
-
--- what the machine sees of a token
-abbrev pub class : Lexeme → TokenKind
-class (Name text) = Token.Name
-class (Number n) = Token.Number n
-class (OfWord w) = Token.Word w
-class (OfSymbol s) = Token.Symbol s
+use Rattle.lego_grammar.specs.Scanning.{class}
 
 -- the binder of a site
 abbrev pub kind_of : Site → Kind

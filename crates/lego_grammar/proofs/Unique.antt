@@ -9,8 +9,9 @@ use Rattle.lego_grammar.specs.Written.{Written, Says, Assumed, Defined, Bound, D
 use Rattle.lego_grammar.specs.Grammar.{Names, Nested, Item, item, token, symbol, sign, ReadsBinding, ReadsBindings, ReadsAct, ReadsCommand, IsContext, TermWord, NumberWord, NameWord, LoneWord}
 use Rattle.lego_grammar.specs.Laws.{Differ}
 use Rattle.lego_grammar.specs.Machine.{Frame, Mode, Want, Between, Done, State, state, move}
-use Rattle.lego_grammar.proofs.Transitions.{class, Closes, Operand, Move, Fits, Runs}
-use Rattle.lego_grammar.proofs.Complete.{kept_deed, kept_bound, kept_says, start_of, numbered-true, complete_command}
+use Rattle.lego_grammar.specs.Scanning.{class, start_of}
+use Rattle.lego_grammar.proofs.Transitions.{Closes, Operand, Move, Fits, Runs}
+use Rattle.lego_grammar.proofs.Complete.{kept_deed, kept_bound, kept_says, numbered-true, complete_command}
 use Rattle.lego_grammar.proofs.Moving.{move_to, nest, nest_is}
 
 item_head : {x y : Item} {xs ys : List Item} → ◌≡◌ {A = List Item} (x ∷ xs) (y ∷ ys) → x ≡ y

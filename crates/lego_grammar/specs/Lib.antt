@@ -7,3 +7,4 @@ pub mod Surface
 pub mod Numbering
 pub mod Frames
 pub mod Stack
+pub mod Scanning

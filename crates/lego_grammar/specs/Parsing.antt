@@ -2,6 +2,9 @@
 use Rattle.std.specs.Prelude.{◌≡◌, ℕ, ◌<◌, ◌≤◌, List, [], ◌∷◌, ◌++◌, map, length, slice_get, Some, ◌⊎◌, All, Contains}
 use Rattle.lego_base.specs.declared.place.Place.{Place}
 use Rattle.lego_lexer.specs.Tokens.{Name}
+use Rattle.lego_lexer.specs.declared.token.Token.{Token}
+use Rattle.lego_lexer.specs.declared.token.TokenKind.TheVariants as Kind
+use Rattle.lego_lexer.specs.declared.token.Symbol.TheVariants.{Semicolon}
 use Rattle.lego_grammar.specs.Grammar.{Names, Item, Parses, IsUnexpected, IsTooDeep}
 use Rattle.lego_grammar.specs.Written.{Order}
 use Rattle.lego_grammar.specs.declared.fault.ParseFault.{ParseFault}
@@ -12,6 +15,10 @@ pub record GrowsBy (tokens : List Item) (old new : Names) : Type 0 where
   pub more : Names
   pub same : new ≡ old ++ more
   pub from : All (λ text. Contains (map (λ t. t.lexeme) tokens) (Name text)) more
+
+-- the last token is a `;`
+abbrev pub EndWithSemicolon : List Token → Type 0
+EndWithSemicolon tokens = (front : List Token) × (t : Token) × (tokens ≡ front ++ t ∷ []) × (t.kind ≡ Kind.Symbol Semicolon)
 
 -- the items differ from one another
 abbrev pub Differ : {X : Type 0} → List X → Type 0

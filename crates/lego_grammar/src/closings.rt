@@ -77,11 +77,7 @@ impl Stack {
         }
     }
 
-    fn close_parens(
-        &mut self,
-        value: Surface,
-        symbol: Symbol,
-    ) -> Result<Option<Mode>, AllocError>
+    fn close_parens(&mut self, value: Surface, symbol: Symbol) -> Result<Option<Mode>, AllocError>
         ensures moves { IfOk result (λ mode. Gives (closes_so self.old.building ParensFrame (written value) (stack self.old) (ASymbol symbol)) mode self.new) }
         ensures building { self.new.building ≡ self.old.building }
     {

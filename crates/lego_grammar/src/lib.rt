@@ -2,6 +2,7 @@
 #![tactic(auto)]
 
 mod actions;
+mod build;
 mod closings;
 mod command;
 mod fault;
@@ -10,6 +11,7 @@ mod laws;
 mod machine;
 mod moves;
 mod parser;
+mod scan;
 mod stack;
 mod surface;
 mod trees;

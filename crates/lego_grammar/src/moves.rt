@@ -73,11 +73,13 @@ impl Stack {
         ensures building { self.new.building ≡ self.old.building }
     {
         match self.pop() {
-            Some(Frame::Apply {
-                mark,
-                function,
-                arguments,
-            }) => self.end_apply(mark, function, arguments, value),
+            Some(
+                Frame::Apply {
+                    mark,
+                    function,
+                    arguments,
+                },
+            ) => self.end_apply(mark, function, arguments, value),
             Some(frame) => {
                 self.push(frame)?;
                 Ok(value)
@@ -109,11 +111,13 @@ impl Stack {
         ensures building { self.new.building ≡ self.old.building }
     {
         let frame = match self.pop() {
-            Some(Frame::Apply {
-                mark: last,
-                function,
-                arguments,
-            }) => self.lengthen(last, function, arguments, value, mark)?,
+            Some(
+                Frame::Apply {
+                    mark: last,
+                    function,
+                    arguments,
+                },
+            ) => self.lengthen(last, function, arguments, value, mark)?,
             Some(frame) => {
                 self.push(frame)?;
                 self.function(value, mark)
@@ -161,11 +165,13 @@ impl Stack {
         ensures building { self.new.building ≡ self.old.building }
     {
         match self.pop() {
-            Some(Frame::Apply {
-                mark,
-                function,
-                arguments,
-            }) => Ok(Some(Frame::Apply {
+            Some(
+                Frame::Apply {
+                    mark,
+                    function,
+                    arguments,
+                },
+            ) => Ok(Some(Frame::Apply {
                 mark,
                 function,
                 arguments,
@@ -208,23 +214,27 @@ impl Stack {
         ensures building { self.new.building ≡ self.old.building }
     {
         match self.pop() {
-            Some(Frame::Apply {
-                mark,
-                function,
-                arguments,
-            }) => Ok(Some(Frame::Apply {
+            Some(
+                Frame::Apply {
+                    mark,
+                    function,
+                    arguments,
+                },
+            ) => Ok(Some(Frame::Apply {
                 mark,
                 function,
                 arguments,
             })),
             Some(Frame::Hash(domain)) => Ok(Some(Frame::Hash(domain))),
             Some(Frame::Arrow(domain)) => Ok(Some(Frame::Arrow(domain))),
-            Some(Frame::Body {
-                kind,
-                mark,
-                names,
-                domain,
-            }) => Ok(Some(Frame::Body {
+            Some(
+                Frame::Body {
+                    kind,
+                    mark,
+                    names,
+                    domain,
+                },
+            ) => Ok(Some(Frame::Body {
                 kind,
                 mark,
                 names,

@@ -1,22 +1,61 @@
 //! The parser.
-ghost use Rattle.std.specs.Prelude.{map, IfOk, IfErr};
-ghost use Rattle.lego_grammar.specs.Grammar.{item_of};
-ghost use Rattle.lego_grammar.specs.Parsing.{GrowsBy, ParsesTo, IsNoCommand};
+ghost use Rattle.std.specs.Prelude.{List, ℕ, map, IfOk, IfErr};
+ghost use Rattle.lego_grammar.specs.Grammar.{Names as Numbering, item_of};
+ghost use Rattle.lego_grammar.specs.Parsing.{EndWithSemicolon, GrowsBy, ParsesTo, IsNoCommand};
+ghost use Rattle.lego_grammar.specs.Numbering.{NamesHaveRanges};
+ghost use Rattle.lego_grammar.specs.Scanning.{mode_at, IsScan, IsWhole};
 ghost use Rattle.lego_grammar.specs.Surface.{order_of};
+ghost use Rattle.lego_grammar.specs.declared.scan.Start.TheVariants.{Context, Other};
 
+use crate::build::build;
 use crate::command::Command;
 use crate::fault::ParseFault;
+use crate::interning::intern_names;
+use crate::scan::{Scan, Start};
 use lego_base::Names;
 use lego_lexer::Token;
 use std::alloc::Global;
 
-/// The command that the tokens are.
-pub fn parse(_alloc: Global, tokens: &[Token], text: &[u8], names: &mut Names) -> Result<Command, ParseFault>
+/// The command that the tokens are, by the grammar; the tokens are those of the text, `;`
+/// included.
+///
+/// Each name among them has a number behind an `Ok`. A refusal is `Unexpected` at the first
+/// token after which no reading exists, or `TooDeep` at the first token that is nested 501
+/// levels deep, by the earlier of the two places and `TooDeep` where they are one; `NamesFull`
+/// where the names are more than 1,048,576; or `Memory`. It may have given numbers to names
+/// among the tokens. The time is linear in the tokens.
+pub fn parse(
+    alloc: Global,
+    tokens: &[Token],
+    text: &[u8],
+    names: &mut Names,
+) -> Result<Command, ParseFault>
+    requires ranges { NamesHaveRanges text.now tokens.now }
+    requires ends { EndWithSemicolon tokens.now }
     ensures command { IfOk result (λ command. ParsesTo names.new (map (item_of text.now) tokens.now) (order_of command)) }
     ensures cause { IfErr result (λ fault. IsNoCommand names.old (map (item_of text.now) tokens.now) fault) }
     ensures grown { GrowsBy (map (item_of text.now) tokens.now) names.old names.new }
 {
-    let _held = names.len();
-    let _many = (tokens.len(), text.len());
+    let Some(first) = tokens.first() else {
+        unreachable!()
+    };
+    let place = first.place;
+    let context = Scan::over(alloc, tokens, Start::Context)?;
+    let other = Scan::over(alloc, tokens, Start::Other)?;
+    let start = decide(tokens, context, other)?;
+    intern_names(tokens, text, names)?;
+    let act = build(alloc, tokens, text, names, start)?;
+    Ok(Command { place, act })
+}
+
+/// Which start's command the tokens are, or why they are none.
+fn decide(tokens: &[Token], context: Scan, other: Scan) -> Result<Start, ParseFault>
+    requires ends { EndWithSemicolon tokens.now }
+    requires context { (bytes : List ℕ) → IsScan (map (item_of bytes) tokens.now) (mode_at Context) context }
+    requires other { (bytes : List ℕ) → IsScan (map (item_of bytes) tokens.now) (mode_at Other) other }
+    ensures whole { IfOk result (λ start. (bytes : List ℕ) → IsWhole (map (item_of bytes) tokens.now) (mode_at start)) }
+    ensures cause { IfErr result (λ fault. (held : Numbering) (bytes : List ℕ) → IsNoCommand held (map (item_of bytes) tokens.now) fault) }
+{
+    let _held = (tokens.len(), context, other);
     Err(ParseFault::Memory)
 }

@@ -1,15 +1,15 @@
 //! The trees that the machine builds, unless it only follows the shape.
+ghost use Rattle.std.specs.Prelude.{◌≡◌, false};
+ghost use Rattle.lego_grammar.specs.Surface.{written};
+ghost use Rattle.lego_grammar.specs.Machine.{wrapped as wraps};
+ghost use Rattle.lego_grammar.specs.Frames.{frame_of};
+
 use crate::machine::{Frame, Mode, Post};
 use crate::stack::Stack;
 use crate::surface::{Kind, Part, Surface};
 use lego_term::{List, Mark};
 use sqlite_items::Boxed;
 use std::alloc::AllocError;
-
-ghost use Rattle.std.specs.Prelude.{◌≡◌, false};
-ghost use Rattle.lego_grammar.specs.Surface.{written};
-ghost use Rattle.lego_grammar.specs.Machine.{wrapped as wraps};
-ghost use Rattle.lego_grammar.specs.Frames.{frame_of};
 
 impl Stack {
     ghost use Rattle.std.specs.Prelude.{true, [], ◌∷◌, ◌++◌, IfOk};
@@ -89,12 +89,7 @@ impl Stack {
     }
 
     /// The pair.
-    pub fn pair(
-        &self,
-        first: Surface,
-        second: Surface,
-        ty: Surface,
-    ) -> Result<Surface, AllocError>
+    pub fn pair(&self, first: Surface, second: Surface, ty: Surface) -> Result<Surface, AllocError>
         ensures { IfOk result (λ r. written r ≡ keeps self.now.building (Couple (written first) (written second) (written ty))) }
     {
         if !self.building {

