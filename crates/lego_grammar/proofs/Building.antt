@@ -3,14 +3,13 @@ use Rattle.std.proofs.Common.{◌≡◌, ℕ, List, [], ◌∷◌, ◌++◌, tru
 use Rattle.lego_grammar.specs.Written.{Deed, Order}
 use Rattle.lego_grammar.specs.Grammar.{Names, Nested, Item, item, ReadsCommand, Parses}
 use Rattle.lego_grammar.specs.Machine.{Mode, Done, State, state, move}
-use Rattle.lego_grammar.specs.Scanning.{class}
+use Rattle.lego_grammar.specs.Scanning.{Begin, class}
 use Rattle.lego_grammar.proofs.Transitions.{Fits}
 use Rattle.lego_grammar.proofs.Sound.{Holds, step}
 use Rattle.lego_grammar.proofs.Moving.{move_from}
 use Rattle.lego_grammar.proofs.Unique.{kept_whole}
 use Rattle.lego_grammar.proofs.Beginnings.{map-both, no_bindings}
 use Rattle.lego_grammar.proofs.Depths.{the}
-use Rattle.lego_grammar.proofs.Scans.{Begin}
 
 -- The machine with trees over tokens, each with the number of the name that it is: as the loop of the code goes, a token more each time.
 pub data Built (names : Names) (m : Mode) : List Item → State → Type 0 where
