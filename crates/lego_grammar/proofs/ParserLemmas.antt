@@ -1,5 +1,6 @@
 -- What two scans say of tokens, for `parse`.
 use Rattle.std.proofs.Common.{◌≡◌, ◌⊎◌, inl, inr, ℕ, suc, ◌≤◌, ◌<◌, List, [], ◌∷◌, ◌++◌, false, Option, Some, None, slice_get, get_or, map, take, length, refl, sym, ap, ◌∙◌, subst, arith}
+use Rattle.std.specs.Prelude.{option_map}
 use Rattle.std.proofs.lemmas.Option.{slice_get-get_or}
 use Rattle.lego_lexer.specs.Tokens.{OfSymbol, lexeme_of}
 use Rattle.lego_lexer.specs.declared.token.Token.{Token}
@@ -34,6 +35,10 @@ pub item_there : (bytes : List ℕ) (tokens : List Token) (i : ℕ) (d : Token) 
 item_there bytes tokens i d lt =
     slice_get-get_or (map (item_of bytes) tokens) i (item_of bytes d) (omega (arith, lt, long_as bytes tokens))
     ∙ ap (λ t. Some t) (item_at bytes tokens i d lt (item_of bytes d))
+
+pub first_item : (bytes : List ℕ) (tokens : List Token) (t : Token) → Some t ≡ slice_get tokens 0 → slice_get (map (item_of bytes) tokens) 0 ≡ Some (item_of bytes t)
+first_item bytes [] t e = cc
+first_item bytes (u ∷ tokens) t e = ap (λ o. option_map (item_of bytes) o) (sym e)
 
 -- any token
 abbrev pub some_token : Token
