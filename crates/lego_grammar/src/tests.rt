@@ -21,15 +21,15 @@ fn is_ended(tokens: &[Token]) -> bool
     }
 }
 
-/// What `parse` answers for a text; nothing where it has no tokens or no `;` at its end.
-fn parsed(alloc: Global, text: &[u8], names: &mut Names) -> Option<Result<Command, ParseFault>>
+/// What `parse` answers for a text, which is to have tokens and a `;` at its end.
+fn parsed(alloc: Global, text: &[u8], names: &mut Names) -> Result<Command, ParseFault>
     requires { length text.now < 16777216 }
 {
     let Ok(tokens) = lex(alloc, text, Place { line: 1, column: 1 }) else {
-        return None;
+        return Err(ParseFault::Memory);
     };
     if !is_ended(&tokens) {
-        return None;
+        return Err(ParseFault::Memory);
     }
-    Some(parse(alloc, &tokens, text, names))
+    parse(alloc, &tokens, text, names)
 }
