@@ -22,3 +22,4 @@ pub mod Building
 pub mod FrameLemmas
 pub mod TreeLemmas
 pub mod StackLemmas
+pub mod ScanLemmas
