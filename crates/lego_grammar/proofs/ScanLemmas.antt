@@ -10,7 +10,6 @@ use Rattle.lego_grammar.specs.Grammar.{item_of}
 use Rattle.lego_grammar.specs.Machine.{Mode, State, state, move, level}
 use Rattle.lego_grammar.specs.Scanning.{class, goes, mode_at, IsStage, IsDepth, IsScan}
 use Rattle.lego_grammar.specs.declared.scan.Start.{Start}
-use Rattle.lego_grammar.specs.declared.scan.Start.TheVariants as Start
 use Rattle.lego_grammar.specs.declared.scan.Stage.{Stage}
 use Rattle.lego_grammar.proofs.NumberingLemmas.{item_at, long_as}
 use Rattle.lego_grammar.proofs.Scanning.{goes_step, shallow_none, shallow_more}
