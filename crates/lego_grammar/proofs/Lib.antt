@@ -23,3 +23,4 @@ pub mod FrameLemmas
 pub mod TreeLemmas
 pub mod StackLemmas
 pub mod ParserLemmas
+pub mod ScanLemmas
