@@ -3,6 +3,7 @@ ghost use Rattle.std.specs.Prelude.{List, map, ℕ, IfOk};
 ghost use Rattle.lego_grammar.specs.Grammar.{item_of};
 ghost use Rattle.lego_grammar.specs.Scanning.{mode_at, IsScan};
 
+use crate::machine::Mode;
 use lego_lexer::Token;
 use std::alloc::{AllocError, Global};
 
@@ -11,6 +12,21 @@ use std::alloc::{AllocError, Global};
 pub(crate) enum Start {
     Context,
     Other,
+}
+
+impl Start {
+    ghost use Rattle.std.specs.Prelude.{◌≡◌};
+    ghost use Rattle.lego_grammar.specs.Frames.{mode_of};
+
+    /// The mode from which a command of this start is read.
+    pub fn mode(self, alloc: Global) -> Mode
+        ensures { mode_of result ≡ mode_at self }
+    {
+        match self {
+            Start::Context => Mode::Between(Vec::new(alloc)),
+            Start::Other => Mode::Start,
+        }
+    }
 }
 
 /// Where a context command stands.
