@@ -18,7 +18,7 @@ pub mod Scanning
 pub mod Balance
 pub mod Apart
 pub mod Cases
-pub mod Building
+pub mod BuildLemmas
 pub mod FrameLemmas
 pub mod TreeLemmas
 pub mod StackLemmas

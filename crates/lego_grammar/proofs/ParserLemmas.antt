@@ -12,17 +12,16 @@ use Rattle.lego_grammar.specs.Grammar.{Names, Item, item_of, ReadsCommand, Parse
 use Rattle.lego_grammar.specs.Parsing.{EndWithSemicolon, ParsesTo, IsNoCommand}
 use Rattle.lego_grammar.specs.Numbering.{IsNumberingFault}
 use Rattle.lego_grammar.specs.Machine.{Frame, Mode, Start, Between, Done, State, state}
-use Rattle.lego_grammar.specs.Scanning.{goes, mode_at, Shallow, Inside, IsStage, IsDepth, IsScan, Begin, Prevailing, Decides, IsWhole}
+use Rattle.lego_grammar.specs.Scanning.{goes, mode_at, Shallow, Inside, IsStage, IsDepth, IsScan, Prevailing, Decides, IsWhole}
 use Rattle.lego_grammar.specs.declared.fault.ParseFault.{ParseFault}
 use Rattle.lego_grammar.specs.declared.fault.ParseFault.TheVariants as Fault
 use Rattle.lego_grammar.specs.declared.scan.Scan.{Scan}
 use Rattle.lego_grammar.specs.declared.scan.Stage.{Stage}
 use Rattle.lego_grammar.specs.declared.scan.Stage.TheVariants as Stage
 use Rattle.lego_grammar.specs.declared.scan.Start.{Start as Begun}
-use Rattle.lego_grammar.specs.declared.scan.Start.TheVariants as Code
 use Rattle.lego_grammar.proofs.NumberingLemmas.{item_at, long_as}
 use Rattle.lego_grammar.proofs.Scanning.{goes_all}
-use Rattle.lego_grammar.proofs.Scans.{finished, none_on}
+use Rattle.lego_grammar.proofs.Scans.{begin_at, finished, none_on}
 use Rattle.lego_grammar.proofs.Prevailing.{context_alone, other_alone}
 use Rattle.lego_grammar.proofs.Balance.{context_bound}
 use Rattle.lego_grammar.proofs.Cases.{context_nothing, other_behind, ends_done}
@@ -43,10 +42,6 @@ first_item bytes (u ∷ tokens) t e = ap (λ o. option_map (item_of bytes) o) (s
 -- any token
 abbrev pub some_token : Token
 some_token = record { kind = Kind.Name; place = record { line = 1; column = 1 }; from = 0; to = 0 }
-
-pub begin_at : (s : Begun) → Begin (mode_at s)
-begin_at Code.Context = Begin.context
-begin_at Code.Other = Begin.other
 
 less : (n : ℕ) → n < suc n
 less n = omega arith

@@ -39,6 +39,10 @@ mode_at Start.Other = M.Start
 abbrev pub Shallow : Mode → List Frame → List Item → ℕ → Type 0
 Shallow m fs is n = (j : ℕ) (s : State) → j < n → goes (take j is) (Some (state m fs)) ≡ Some s → level s ≤ 500
 
+-- the mode behind a whole command
+abbrev pub HasEnded : Mode → Type 0
+HasEnded m = (deed : Deed) × (m ≡ Done deed)
+
 -- the modes of a context command that stand inside a binding
 abbrev pub Inside : Mode → Type 0
 Inside (Between _) = ⊥
@@ -50,7 +54,7 @@ abbrev pub IsStage : Stage → Mode → Type 0
 IsStage Stage.Nothing m = m ≡ Between []
 IsStage Stage.Inside m = Inside m
 IsStage Stage.Behind m = (b : Bound) × (bs : List Bound) × (m ≡ Between (b ∷ bs))
-IsStage Stage.Ended m = (deed : Deed) × (m ≡ Done deed)
+IsStage Stage.Ended m = HasEnded m
 
 -- the first token whose state is more than 500 levels deep, of those up to token `stop`, or that there is none
 abbrev pub IsDepth : List Item → Mode → ℕ → Option ℕ → Type 0

@@ -22,7 +22,7 @@ impl Start {
     ghost use Rattle.lego_grammar.specs.Frames.{mode_of};
 
     /// What may come first.
-    fn mode(self, alloc: Global) -> Mode
+    pub fn mode(self, alloc: Global) -> Mode
         ensures { mode_of result ≡ mode_at self }
     {
         match self {
