@@ -14,12 +14,17 @@ fn shown(alloc: Global, text: &[u8]) -> Result<Vec<u8>, AllocError>
 {
     let mut names = Names::new(alloc);
     match parsed(alloc, text, &mut names) {
-        Ok(command) => rendered(alloc, &names, command),
+        Ok(command) => {
+            let text = rendered(alloc, &names, &command);
+            // By a call, since a drop in place goes through all that a command may hold.
+            drop(command);
+            text
+        }
         Err(_fault) => Vec::from_slice(alloc, b"refused"),
     }
 }
 
-fn rendered(alloc: Global, names: &Names, command: Command) -> Result<Vec<u8>, AllocError> {
+fn rendered(alloc: Global, names: &Names, command: &Command) -> Result<Vec<u8>, AllocError> {
     let mut text = Vec::new(alloc);
     push_act(&mut text, names, &command.act)?;
     Ok(text)

@@ -13,7 +13,11 @@ fn fault(alloc: Global, text: &[u8]) -> Option<ParseFault>
 {
     let mut names = Names::new(alloc);
     match parsed(alloc, text, &mut names) {
-        Ok(_command) => None,
+        Ok(command) => {
+            // By a call, since a drop in place goes through all that a command may hold.
+            drop(command);
+            None
+        }
         Err(fault) => Some(fault),
     }
 }
