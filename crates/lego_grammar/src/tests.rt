@@ -2,6 +2,7 @@ ghost use Rattle.std.specs.Prelude.{◌≡◌, ◌<◌, true, length};
 ghost use Rattle.lego_grammar.specs.Parsing.{EndWithSemicolon};
 
 mod forms;
+mod many;
 mod refusals;
 mod render;
 

@@ -28,7 +28,7 @@ fn push_names(text: &mut Vec<u8>, names: &Names, held: &[u32]) -> Result<(), All
 }
 
 /// Adds a number below 10.
-fn push_digit(text: &mut Vec<u8>, number: u32) -> Result<(), AllocError> {
+pub fn push_digit(text: &mut Vec<u8>, number: u32) -> Result<(), AllocError> {
     let digit = b"0123456789".get(number as usize);
     text.push(digit.copied().unwrap_or(b'+'))?;
     Ok(())
