@@ -1,5 +1,5 @@
 -- What two scans say of tokens, for `parse`.
-use Rattle.std.proofs.Common.{◌≡◌, ◌⊎◌, inl, inr, ℕ, suc, ◌≤◌, ◌<◌, List, [], ◌∷◌, ◌++◌, false, Option, Some, None, slice_get, get_or, map, take, length, refl, sym, ap, ◌∙◌, subst, arith}
+use Rattle.std.proofs.Common.{◌≡◌, inl, inr, ℕ, suc, ◌≤◌, ◌<◌, List, [], ◌∷◌, ◌++◌, Option, Some, None, slice_get, get_or, map, take, length, refl, sym, ap, ◌∙◌, subst, arith}
 use Rattle.std.specs.Prelude.{option_map}
 use Rattle.std.proofs.lemmas.Option.{slice_get-get_or}
 use Rattle.lego_lexer.specs.Tokens.{OfSymbol, lexeme_of}
@@ -11,13 +11,12 @@ use Rattle.lego_grammar.specs.Written.{Deed, Order}
 use Rattle.lego_grammar.specs.Grammar.{Names, Item, item_of, ReadsCommand, Parses}
 use Rattle.lego_grammar.specs.Parsing.{EndWithSemicolon, ParsesTo, IsNoCommand}
 use Rattle.lego_grammar.specs.Numbering.{IsNumberingFault}
-use Rattle.lego_grammar.specs.Machine.{Frame, Mode, Start, Between, Done, State, state}
+use Rattle.lego_grammar.specs.Machine.{Mode, Start, Between, Done, state}
 use Rattle.lego_grammar.specs.Scanning.{goes, mode_at, Shallow, Inside, IsStage, IsDepth, IsScan, Prevailing, Decides, IsWhole}
 use Rattle.lego_grammar.specs.declared.fault.ParseFault.{ParseFault}
 use Rattle.lego_grammar.specs.declared.fault.ParseFault.TheVariants as Fault
 use Rattle.lego_grammar.specs.declared.scan.Scan.{Scan}
 use Rattle.lego_grammar.specs.declared.scan.Stage.{Stage}
-use Rattle.lego_grammar.specs.declared.scan.Stage.TheVariants as Stage
 use Rattle.lego_grammar.specs.declared.scan.Start.{Start as Begun}
 use Rattle.lego_grammar.proofs.NumberingLemmas.{item_at, long_as}
 use Rattle.lego_grammar.proofs.Scanning.{goes_all}

@@ -7,7 +7,7 @@ use Rattle.lego_lexer.specs.declared.token.TokenKind.TheVariants as Token
 use Rattle.lego_lexer.specs.declared.token.Symbol.TheVariants.{Semicolon}
 use Rattle.lego_grammar.specs.declared.surface.Kind.TheVariants.{Lambda, Pi, Sigma}
 use Rattle.lego_grammar.specs.Written.{Written, Deed, Order}
-use Rattle.lego_grammar.specs.Grammar.{Names, Nested, Item, item, ReadsCommand, Parses, IsUnexpected, IsContext, EndsInBinding, Prevails}
+use Rattle.lego_grammar.specs.Grammar.{Names, Nested, Item, item, ReadsCommand, Parses, IsContext, EndsInBinding, Prevails}
 use Rattle.lego_grammar.specs.Machine.{Frame, Mode, Start, Between, Done, State, state, move}
 use Rattle.lego_grammar.specs.Scanning.{Begin, Prevailing, goes, start_of}
 use Rattle.lego_grammar.proofs.Transitions.{Closes, Operand, Move}

@@ -5,7 +5,6 @@ use Rattle.lego_grammar.specs.Grammar.{Names, Nested, Item, item, ReadsCommand, 
 use Rattle.lego_grammar.specs.Machine.{Frame, Mode, Start, Between, Done, State, state, move}
 use Rattle.lego_grammar.specs.Scanning.{Begin, class, goes, mode_at, start_of}
 use Rattle.lego_grammar.specs.declared.scan.Start.{Start as Code}
-use Rattle.lego_grammar.specs.declared.scan.Start.TheVariants as Code
 use Rattle.lego_grammar.proofs.Transitions.{Move, Runs, runs_on}
 use Rattle.lego_grammar.proofs.Complete.{kept_deed, complete_command}
 use Rattle.lego_grammar.proofs.Sound.{Holds}

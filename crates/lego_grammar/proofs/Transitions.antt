@@ -3,8 +3,7 @@ use Rattle.std.proofs.Common.{◌≡◌, ℕ, suc, List, [], ◌∷◌, ◌++◌
 use Rattle.lego_base.specs.declared.place.Place.{Place}
 use Rattle.lego_term.specs.declared.binder.Mark.{Mark}
 use Rattle.lego_term.specs.declared.binder.Mark.TheVariants.{Plain, Implicit}
-use Rattle.lego_lexer.specs.Tokens.{Lexeme, Name, Number, OfWord, OfSymbol}
-use Rattle.lego_lexer.specs.declared.token.TokenKind.{TokenKind}
+use Rattle.lego_lexer.specs.Tokens.{Lexeme, Name, Number, OfSymbol}
 use Rattle.lego_lexer.specs.declared.token.TokenKind.TheVariants as Token
 use Rattle.lego_lexer.specs.declared.token.Word.{Word}
 use Rattle.lego_lexer.specs.declared.token.Symbol.TheVariants.{OpenSquare, CloseSquare, OpenParen, CloseParen, Colon, Semicolon, Comma, Equals, Dot, Hash, Question, Arrow, Bar}

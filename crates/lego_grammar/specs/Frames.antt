@@ -1,19 +1,15 @@
 -- What the parser's stack and its modes stand for.
-use Rattle.std.specs.Prelude.{List, [], ◌∷◌, ℕ, Option, Some, None, map, reverse}
+use Rattle.std.specs.Prelude.{List, map, reverse}
 use Rattle.lego_term.specs.declared.binder.Mark.{Mark}
 use Rattle.lego_grammar.specs.declared.surface.Surface.{Surface}
-use Rattle.lego_grammar.specs.Written.{Written, Bound}
+use Rattle.lego_grammar.specs.Written.{Written}
 use Rattle.lego_grammar.specs.Surface.{written, applied, projected, bound_of, deed_of_act}
 use Rattle.lego_grammar.specs.Machine as M
 use Rattle.lego_grammar.specs.declared.machine.Site.{Site}
-use Rattle.lego_grammar.specs.declared.machine.Site.TheVariants as Site
 use Rattle.lego_grammar.specs.declared.machine.Use.{Use}
-use Rattle.lego_grammar.specs.declared.machine.Use.TheVariants as Use
 use Rattle.lego_grammar.specs.declared.machine.Frame.{Frame}
-use Rattle.lego_grammar.specs.declared.machine.Frame.TheVariants as Frame
 use Rattle.lego_grammar.specs.declared.machine.Post.{Post}
 use Rattle.lego_grammar.specs.declared.machine.Mode.{Mode}
-use Rattle.lego_grammar.specs.declared.machine.Mode.TheVariants as Mode
 
 abbrev pub site_of : Site → M.Site
 site_of (Site.Term k) = M.InTerm k

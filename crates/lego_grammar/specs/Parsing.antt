@@ -1,6 +1,5 @@
 -- What the parser answers.
 use Rattle.std.specs.Prelude.{◌≡◌, ℕ, ◌<◌, ◌≤◌, List, [], ◌∷◌, ◌++◌, map, length, slice_get, Some, ◌⊎◌, All, Contains}
-use Rattle.lego_base.specs.declared.place.Place.{Place}
 use Rattle.lego_lexer.specs.Tokens.{Name}
 use Rattle.lego_lexer.specs.declared.token.Token.{Token}
 use Rattle.lego_lexer.specs.declared.token.TokenKind.TheVariants as Kind

@@ -8,9 +8,7 @@ use Rattle.lego_grammar.specs.Grammar.{Names, Item, Parses, IsUnexpected, Prevai
 use Rattle.lego_grammar.specs.Machine as M
 use Rattle.lego_grammar.specs.Machine.{Mode, Between, Done, Frame, State, state, move, level}
 use Rattle.lego_grammar.specs.declared.scan.Start.{Start}
-use Rattle.lego_grammar.specs.declared.scan.Start.TheVariants as Start
 use Rattle.lego_grammar.specs.declared.scan.Stage.{Stage}
-use Rattle.lego_grammar.specs.declared.scan.Stage.TheVariants as Stage
 use Rattle.lego_grammar.specs.declared.scan.Scan.{Scan}
 
 -- what the machine sees of a token
