@@ -1,6 +1,7 @@
 //! The command that bytes are, or why they are none.
 ghost use Rattle.std.specs.Prelude.{◌≡◌, ◌≤◌, ◌+◌, true, length, map, IfOk, IfErr, IfSome, IfNone};
 ghost use Rattle.lego_grammar.specs.Surface.{order_of};
+ghost use Rattle.lego_lexer.specs.Commands.{IsCommandText};
 ghost use Rattle.lego_lexer.specs.Tokens.{placed};
 ghost use Rattle.lego_lexer.specs.declared.token.Token.{Token as PlacedToken};
 ghost use Rattle.lego_session.specs.Commands.{HasTokens, IsCommand, IsUnreadBy, lex_place, lex_cause};
@@ -36,6 +37,7 @@ pub(crate) fn read_command(
     requires line { place.line + length bytes.now ≤ 33554433 }
     requires column { place.column + length bytes.now ≤ 33554433 }
     requires some { length bytes.now ≤ 16777216 }
+    requires text { IsCommandText bytes.now }
     ensures command { IfOk result (λ command. IsCommand names.new (record { place = place; bytes = bytes.now }) (order_of command)) }
     ensures built { IfOk result (λ command. is_built (order_of command).deed ≡ true) }
     ensures unread { IfErr result (λ unread. IsUnreadBy names.old (record { place = place; bytes = bytes.now }) unread.place unread.cause) }
@@ -92,7 +94,8 @@ fn parse_command(
     bytes: &[u8],
     tokens: &[Token],
 ) -> Result<Command, Unread>
-    requires { HasTokens (record { place = place; bytes = bytes.now }) (map (placed bytes.now) tokens.now) }
+    requires lexed { HasTokens (record { place = place; bytes = bytes.now }) (map (placed bytes.now) tokens.now) }
+    requires text { IsCommandText bytes.now }
     ensures command { IfOk result (λ command. IsCommand names.new (record { place = place; bytes = bytes.now }) (order_of command)) }
     ensures built { IfOk result (λ command. is_built (order_of command).deed ≡ true) }
     ensures unread { IfErr result (λ unread. IsUnreadBy names.old (record { place = place; bytes = bytes.now }) unread.place unread.cause) }
