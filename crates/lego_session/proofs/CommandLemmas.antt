@@ -1,8 +1,11 @@
 -- From what the parser answers to what bytes are, and why they are no command.
 use Rattle.std.proofs.Common.{◌≡◌, ℕ, zero, suc, ◌<◌, ◌≤◌, List, [], ◌∷◌, ◌++◌, map, length, slice_get, Some, None, option_map, ◌⊎◌, inl, inr, refl, sym, ap, ◌∙◌, subst, arith, ◌≡◌, false}
+use Rattle.std.specs.Prelude.{Contains}
+use Rattle.std.proofs.lemmas.List.{append-nil}
+use Rattle.std.proofs.lemmas.List.Elements.{All-nil, All-weaker}
 use Rattle.std.proofs.lemmas.Option.{slice_get-map, get_or_from_slice_get}
 use Rattle.lego_base.specs.declared.place.Place.{Place}
-use Rattle.lego_lexer.specs.Tokens.{OfSymbol, lexeme_of, Placed, Tokens, placed, Refused}
+use Rattle.lego_lexer.specs.Tokens.{Name, OfSymbol, lexeme_of, Placed, Tokens, placed, Refused}
 use Rattle.lego_lexer.specs.declared.token.LexFault.{LexFault}
 use Rattle.lego_lexer.specs.declared.token.LexFault.TheVariants as Lex
 use Rattle.lego_lexer.specs.Commands.{CommandText, IsCommandText}
@@ -13,11 +16,11 @@ use Rattle.lego_lexer.specs.declared.token.Symbol.TheVariants.{Semicolon}
 use Rattle.lego_lexer.proofs.LastToken.{command_ends}
 use Rattle.lego_lexer.proofs.Ranges.{token_in_range}
 use Rattle.lego_grammar.specs.Grammar.{Names, Item, item, item_of, Nested, ReadsCommand, IsUnexpected, IsTooDeep}
-use Rattle.lego_grammar.specs.Parsing.{EndWithSemicolon, ParsesTo, AreTooMany, IsNoCommand}
+use Rattle.lego_grammar.specs.Parsing.{EndWithSemicolon, GrowsBy, ParsesTo, AreTooMany, IsNoCommand}
 use Rattle.lego_grammar.specs.Written.{Order}
 use Rattle.lego_grammar.specs.declared.fault.ParseFault.{ParseFault}
 use Rattle.lego_grammar.specs.declared.fault.ParseFault.TheVariants as Fault
-use Rattle.lego_session.specs.Commands.{grammar_tokens, HasTokens, IsCommand, IsUnread, IsUnreadBy, lex_place, lex_cause}
+use Rattle.lego_session.specs.Commands.{grammar_tokens, Grows, IsNameOf, HasTokens, IsCommand, IsUnread, IsUnreadBy, lex_place, lex_cause}
 use Rattle.lego_session.specs.Reading.{is_built}
 use Rattle.lego_session.specs.Unread.{HasItsToken, IsUnexpectedToken, IsNotParsed}
 use Rattle.lego_session.specs.declared.refusal.Cause.{Cause}
@@ -50,6 +53,25 @@ token_range place bytes tokens n t lexed h =
     within_of [] i x e = cc
     within_of (y ∷ ys) zero x e = omega arith
     within_of (y ∷ ys) (suc i) x e = let l = within_of ys i x e in omega (arith, l)
+
+same_lexemes : (bytes : List ℕ) (tokens : List Token)
+    → map (λ (t : Item). t.lexeme) (map (item_of bytes) tokens) ≡ map (λ (t : Placed). t.lexeme) (map (placed bytes) tokens)
+same_lexemes bytes [] = refl
+same_lexemes bytes (t ∷ ts) = ap (λ xs. lexeme_of bytes t.kind t.from t.to ∷ xs) (same_lexemes bytes ts)
+
+-- the numbering grows by names among the tokens, or not at all
+pub grown_by : {old new : Names} (place : Place) (bytes : List ℕ) (tokens : List Token)
+    → HasTokens (record { place = place; bytes = bytes }) (map (placed bytes) tokens) → GrowsBy (map (item_of bytes) tokens) old new
+    → Grows (record { place = place; bytes = bytes }) old new
+grown_by place bytes tokens lexed h = record {
+  more = h.more;
+  same = h.same;
+  from = All-weaker (λ text. Contains (map (λ (t : Item). t.lexeme) (map (item_of bytes) tokens)) (Name text)) (IsNameOf (record { place = place; bytes = bytes }))
+      (λ text held. (map (placed bytes) tokens, lexed, subst (λ ls. Contains ls (Name text)) (same_lexemes bytes tokens) held)) h.more h.from;
+}
+
+pub not_grown : (c : CommandText) (names : Names) → Grows c names names
+not_grown c names = record { more = []; same = sym (append-nil names); from = All-nil (IsNameOf c) }
 
 -- the last token of a command is its `;`
 is_semicolon : (bytes : List ℕ) (kind : TokenKind) (from to : ℕ) → lexeme_of bytes kind from to ≡ OfSymbol Semicolon → kind ≡ Kind.Symbol Semicolon

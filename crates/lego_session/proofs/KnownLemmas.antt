@@ -12,22 +12,22 @@ use Rattle.lego_grammar.specs.Grammar.{Names, Nested, Item as Token, item, Parse
 use Rattle.lego_grammar.specs.Written.{Bound, Deed, NameAt, Order}
 use Rattle.lego_kernel.specs.Entries.{assumption}
 use Rattle.lego_kernel.specs.declared.entry.Entry.{Entry as Item}
-use Rattle.lego_session.specs.Commands.{grammar_tokens, Answers}
-use Rattle.lego_session.specs.Names.{IsHeldName, Grows, AreKnown}
+use Rattle.lego_session.specs.Commands.{grammar_tokens, Grows, Answers}
+use Rattle.lego_session.specs.Names.{IsHeldName, AreKnown}
 use Rattle.lego_session.specs.Steps.{assume_all, BindsAll, Step, Answer}
 use Rattle.lego_session.proofs.DenotesNames.{front_at}
 use Rattle.lego_session.proofs.TokenLemmas.{IsTrueName, AreTrueNames, tokens_are_names}
 
-held_more : {old new : Names} (n : ℕ) → Grows old new → IsHeldName old n → IsHeldName new n
-held_more {old} {new} n g h = record {
+held_more : {c : CommandText} {old new : Names} (n : ℕ) → Grows c old new → IsHeldName old n → IsHeldName new n
+held_more {old = old} n g h = record {
   text = h.text;
-  held = ap (λ (names : Names). slice_get names n) g.1 ∙ front_at old g.0 n h.text h.held;
+  held = ap (λ (names : Names). slice_get names n) g.same ∙ front_at old g.more n h.text h.held;
   is_name = h.is_name;
 }
 
 -- names stay known as the numbering grows
-pub known_more : {old new : Names} (es : List Item) → Grows old new → AreKnown old es → AreKnown new es
-known_more {old} {new} es g known =
+pub known_more : {c : CommandText} {old new : Names} (es : List Item) → Grows c old new → AreKnown old es → AreKnown new es
+known_more {old = old} {new = new} es g known =
     All-weaker (λ e. (n : ℕ) × (e.name ≡ Some n) × IsHeldName old n) (λ e. (n : ℕ) × (e.name ≡ Some n) × IsHeldName new n)
     (λ e h. (h.0, h.1, held_more h.0 g h.2)) es known
 
@@ -133,5 +133,5 @@ step_known (Step.refused is h) parses lexed known = known
 -- a command that is answered leaves entries whose names are held
 pub answered_known : {held names : Names} {old new : List Item} {c : CommandText} {a : Answer}
     → Answers held old c a names new → AreKnown held old → AreKnown names new
-answered_known {old = old} (Answers.step g command built h) known = step_known h command.parsed command.lexed.lexed (known_more old g known)
-answered_known {old = old} (Answers.unread g h) known = known_more old g known
+answered_known {old = old} (Answers.step g differ command built h) known = step_known h command.parsed command.lexed.lexed (known_more old g known)
+answered_known {old = old} (Answers.unread g differ h) known = known_more old g known

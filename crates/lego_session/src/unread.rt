@@ -4,9 +4,8 @@ ghost use Rattle.lego_grammar.specs.Surface.{order_of};
 ghost use Rattle.lego_lexer.specs.Commands.{IsCommandText};
 ghost use Rattle.lego_lexer.specs.Tokens.{placed};
 ghost use Rattle.lego_lexer.specs.declared.token.Token.{Token as PlacedToken};
-ghost use Rattle.lego_session.specs.Commands.{HasTokens, IsCommand, IsUnreadBy, lex_place, lex_cause};
+ghost use Rattle.lego_session.specs.Commands.{Grows, HasTokens, IsCommand, IsUnreadBy, lex_place, lex_cause};
 ghost use Rattle.lego_session.specs.Unread.{StandsAt, FirstStandElsewhere, HasItsToken, IsUnexpectedToken, IsNotParsed};
-ghost use Rattle.lego_session.specs.Names.{Grows};
 ghost use Rattle.lego_session.specs.Reading.{is_built};
 
 use crate::reading::is_built;
@@ -41,7 +40,7 @@ pub(crate) fn read_command(
     ensures command { IfOk result (λ command. IsCommand names.new (record { place = place; bytes = bytes.now }) (order_of command)) }
     ensures built { IfOk result (λ command. is_built (order_of command).deed ≡ true) }
     ensures unread { IfErr result (λ unread. IsUnreadBy names.old (record { place = place; bytes = bytes.now }) unread.place unread.cause) }
-    ensures grown { Grows names.old names.new }
+    ensures grown { Grows (record { place = place; bytes = bytes.now }) names.old names.new }
 {
     if bytes.len() > MAX_COMMAND {
         return Err(Unread {
@@ -99,7 +98,7 @@ fn parse_command(
     ensures command { IfOk result (λ command. IsCommand names.new (record { place = place; bytes = bytes.now }) (order_of command)) }
     ensures built { IfOk result (λ command. is_built (order_of command).deed ≡ true) }
     ensures unread { IfErr result (λ unread. IsUnreadBy names.old (record { place = place; bytes = bytes.now }) unread.place unread.cause) }
-    ensures grown { Grows names.old names.new }
+    ensures grown { Grows (record { place = place; bytes = bytes.now }) names.old names.new }
 {
     let command = match parse(alloc, tokens, bytes, names) {
         Ok(command) => command,

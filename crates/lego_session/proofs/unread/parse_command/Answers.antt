@@ -1,6 +1,6 @@
 use Rattle.std.proofs.Common.{sym, ◌∙◌}
 use Rattle.lego_grammar.proofs.RangesOfNames.{names_have_ranges}
-use Rattle.lego_session.proofs.CommandLemmas.{ends_so, its_token, not_parsed_unread, is_command, first_token, unbuilt_unread, token_range}
+use Rattle.lego_session.proofs.CommandLemmas.{ends_so, grown_by, its_token, not_parsed_unread, is_command, first_token, unbuilt_unread, token_range}
 use Rattle.lego_session.proofs.unread.parse_command.Goals as goal
 
 pub parse-requires-clause-ranges : goal.parse-requires-clause-ranges
@@ -33,3 +33,12 @@ pub returns-clause-unread : goal.returns-clause-unread
 returns-clause-unread c =
     unbuilt_unread c.args.names.now c.parse.new.names c.args.place c.args.bytes.now c.args.tokens.now _ c.in-Some.first.now _ _ c.requires.lexed c.in-Ok.ensures.command
     (sym c.is_built.ensures ∙ c.if-is_built.false) (sym c.in-Some.ensures.value) c.unexpected.ensures
+
+pub returns-in-Err-clause-grown : goal.returns-in-Err-clause-grown
+returns-in-Err-clause-grown c = grown_by c.args.place c.args.bytes.now c.args.tokens.now c.requires.lexed c.parse.ensures.grown
+
+pub returns-then-is_built-clause-grown : goal.returns-then-is_built-clause-grown
+returns-then-is_built-clause-grown c = grown_by c.args.place c.args.bytes.now c.args.tokens.now c.requires.lexed c.parse.ensures.grown
+
+pub returns-clause-grown : goal.returns-clause-grown
+returns-clause-grown c = grown_by c.args.place c.args.bytes.now c.args.tokens.now c.requires.lexed c.parse.ensures.grown
