@@ -316,6 +316,38 @@ fn a_token_has_at_most_500_levels_around_it(rt: HostRuntime) -> Result<(), Fail>
     Ok(())
 }
 
+/// `Prop`, behind so many times `Prop->`.
+fn arrows(alloc: Global, count: usize) -> Result<Vec<u8>, AllocError> {
+    let mut text = Vec::new(alloc);
+    for _ in 0..count {
+        text.extend_from_slice(b"Prop->")?;
+    }
+    text.extend_from_slice(b"Prop")?;
+    Ok(text)
+}
+
+#[test]
+fn a_type_has_at_most_499_arrows(rt: HostRuntime) -> Result<(), Fail> {
+    let alloc = rt.alloc();
+    let ty = arrows(alloc, 499)?;
+    let mut script = Vec::from_slice(alloc, b"[A:")?;
+    script.extend_from_slice(&ty)?;
+    script.extend_from_slice(b"];")?;
+    let mut output = Vec::from_slice(alloc, b"A : ")?;
+    output.extend_from_slice(&ty)?;
+    output.extend_from_slice(b"\nExplicit;\n")?;
+    output.extend_from_slice(&script)?;
+    output.extend_from_slice(b"\n")?;
+    let got = ran(alloc, &script, 4096)?;
+    assert_eq!(rt; got.1, Status::Accepted);
+    assert!(rt; got.0 == output);
+    let mut script = Vec::from_slice(alloc, b"[A:")?;
+    script.extend_from_slice(&arrows(alloc, 500)?)?;
+    script.extend_from_slice(b"];")?;
+    assert!(rt; is_refused(alloc, &script, b"refused 1:3004 6 TooDeep")?);
+    Ok(())
+}
+
 /// Adds a name that a number tells from others.
 fn push_name(alloc: Global, text: &mut Vec<u8>, number: usize) -> Result<(), AllocError> {
     let name = format!(in alloc; "a{number}")?;
