@@ -6,13 +6,13 @@ use Rattle.lego_lexer.specs.declared.token.Symbol.TheVariants.{CloseSquare, Semi
 use Rattle.lego_grammar.specs.Written.{Bound, Deed, Order}
 use Rattle.lego_grammar.specs.Grammar.{Names, Nested, Item, item, symbol, ReadsCommand, IsContext}
 use Rattle.lego_grammar.specs.Machine.{Frame, Mode, Start, Want, Between, Done, State, state, move}
-use Rattle.lego_grammar.specs.Scanning.{class, goes}
+use Rattle.lego_grammar.specs.Scanning.{Begin, class, goes}
 use Rattle.lego_grammar.proofs.Transitions.{Move}
 use Rattle.lego_grammar.proofs.Moving.{move_from}
 use Rattle.lego_grammar.proofs.Unique.{behind_square, context_ends}
 use Rattle.lego_grammar.proofs.Beginnings.{ran, texts, known_texts, map-both}
 use Rattle.lego_grammar.proofs.Sides.{Elsewhere, run_elsewhere}
-use Rattle.lego_grammar.proofs.Scans.{Begin, finished, goes_append}
+use Rattle.lego_grammar.proofs.Scans.{finished, goes_append}
 use Rattle.lego_grammar.proofs.Prevailing.{end, begins_context, operand_end}
 use Rattle.lego_grammar.proofs.Deciding.{none_behind, append_nil}
 use Rattle.lego_grammar.proofs.Scanning.{goes_nil}

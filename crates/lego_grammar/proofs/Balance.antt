@@ -9,13 +9,13 @@ use Rattle.lego_grammar.specs.declared.surface.Kind.TheVariants.{Lambda, Pi, Sig
 use Rattle.lego_grammar.specs.Written.{Written, Deed, Order}
 use Rattle.lego_grammar.specs.Grammar.{Names, Nested, Item, item, Parses, IsContext, EndsInBinding, Prevails}
 use Rattle.lego_grammar.specs.Machine.{Frame, ApplyTo, HashFrom, ArrowFrom, BodyOf, BodyWith, Whole, Mode, Start, Want, Behind, WantPart, WantGoal, WantLevel, CloseLevel, WantName, BehindName, Between, Done, State, state, settled, summed, closed, wrapped}
-use Rattle.lego_grammar.specs.Scanning.{Inside, goes, start_of}
+use Rattle.lego_grammar.specs.Scanning.{Begin, Inside, Prevailing, goes, start_of}
 use Rattle.lego_grammar.proofs.Transitions.{Operand, Closes, Move, WaitingWord, Runs}
 use Rattle.lego_grammar.proofs.Complete.{complete_command}
 use Rattle.lego_grammar.proofs.Beginnings.{texts, unexpected_at}
 use Rattle.lego_grammar.proofs.Sides.{Bound, InBindings, run_in_bindings}
-use Rattle.lego_grammar.proofs.Scans.{Begin, holds_at, kind, finished, begun}
-use Rattle.lego_grammar.proofs.Prevailing.{Prevailing, end, begins_context}
+use Rattle.lego_grammar.proofs.Scans.{holds_at, kind, finished, begun}
+use Rattle.lego_grammar.proofs.Prevailing.{end, begins_context}
 
 abbrev up : Lexeme → ℕ
 up (OfSymbol OpenSquare) = 1

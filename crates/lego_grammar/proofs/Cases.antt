@@ -8,14 +8,14 @@ use Rattle.lego_lexer.specs.declared.token.Symbol.TheVariants.{Semicolon}
 use Rattle.lego_grammar.specs.Written.{Bound, Deed}
 use Rattle.lego_grammar.specs.Grammar.{Names, Nested, Item, item, ReadsBindings}
 use Rattle.lego_grammar.specs.Machine.{Frame, Mode, Start, Between, Done, State, state, move}
-use Rattle.lego_grammar.specs.Scanning.{goes}
+use Rattle.lego_grammar.specs.Scanning.{Begin, Prevailing, goes}
 use Rattle.lego_grammar.proofs.Complete.{kept_bound}
 use Rattle.lego_grammar.proofs.Sound.{Holds}
 use Rattle.lego_grammar.proofs.Moving.{move_from}
 use Rattle.lego_grammar.proofs.Beginnings.{ran, texts, known_texts, holds}
 use Rattle.lego_grammar.proofs.Depths.{the}
-use Rattle.lego_grammar.proofs.Scans.{Begin, holds_at, goes_append}
-use Rattle.lego_grammar.proofs.Prevailing.{Prevailing, Over, end, ends, context_inside, other_outside}
+use Rattle.lego_grammar.proofs.Scans.{holds_at, goes_append}
+use Rattle.lego_grammar.proofs.Prevailing.{Over, end, ends, context_inside, other_outside}
 use Rattle.lego_grammar.proofs.Scanning.{goes_nil}
 
 none_some : {X : Type 0} {x : X} → ◌≡◌ {A = Option X} None (Some x) → ⊥

@@ -15,15 +15,14 @@ use Rattle.lego_grammar.specs.Grammar.{Names, Nested, Item, item, ReadsCommand, 
 use Rattle.lego_grammar.specs.Parsing.{ParsesTo, IsNoCommand}
 use Rattle.lego_grammar.specs.declared.fault.ParseFault.TheVariants as Fault
 use Rattle.lego_grammar.specs.Machine.{Frame, Mode, Done, State, state, level}
-use Rattle.lego_grammar.specs.Scanning.{Shallow, goes, start_of}
+use Rattle.lego_grammar.specs.Scanning.{Begin, Prevailing, Shallow, goes, start_of}
 use Rattle.lego_grammar.proofs.Transitions.{Runs, runs_on}
 use Rattle.lego_grammar.proofs.Complete.{kept_deed, complete_command}
 use Rattle.lego_grammar.proofs.Unique.{split, one_nesting}
 use Rattle.lego_grammar.proofs.Refusals.{one_unexpected}
 use Rattle.lego_grammar.proofs.Beginnings.{gone, map-both}
 use Rattle.lego_grammar.proofs.Depths.{Entry, the, deep_at, low_at, all_low}
-use Rattle.lego_grammar.proofs.Scans.{Begin, finished, no_move}
-use Rattle.lego_grammar.proofs.Prevailing.{Prevailing}
+use Rattle.lego_grammar.proofs.Scans.{finished, no_move}
 
 -- A start is within the limit.
 entry : {m : Mode} → Begin m → Entry m []

@@ -18,7 +18,9 @@ pub mod Scanning
 pub mod Balance
 pub mod Apart
 pub mod Cases
-pub mod Building
+pub mod BuildLemmas
 pub mod FrameLemmas
 pub mod TreeLemmas
 pub mod StackLemmas
+pub mod ParserLemmas
+pub mod ScanLemmas

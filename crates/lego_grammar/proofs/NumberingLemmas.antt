@@ -1,9 +1,12 @@
 -- How numbers are given to names, token by token.
-use Rattle.std.proofs.Common.{◌≡◌, ℕ, zero, suc, pred, ◌+◌, ◌<◌, List, [], ◌∷◌, ◌++◌, ◌||◌, Bool, true, false, map, length, slice_get, get_or, position, Some, ◌⊎◌, inl, inr, refl, sym, ap, ◌∙◌, subst, append_assoc, arith, length-append}
+use Rattle.std.proofs.Common.{◌≡◌, ℕ, zero, suc, pred, ◌+◌, ◌<◌, List, [], ◌∷◌, ◌++◌, ◌||◌, Bool, true, false, map, length, slice_get, get_or, position, Some, None, ◌≤◌, ◌⊎◌, inl, inr, refl, sym, ap, ◌∙◌, subst, append_assoc, arith, length-append}
 use Rattle.std.specs.Prelude.{Contains, slice_range}
 use Rattle.std.proofs.lemmas.List.{get_or-map, append-nil}
 use Rattle.std.proofs.lemmas.List.Elements.{All-append, Contains-append_cases, Contains-get_or}
+use Rattle.std.specs.List.{position_or_len}
+use Rattle.std.proofs.lemmas.Bool.Decides.{nat_tests}
 use Rattle.std.proofs.lemmas.List.Quantifiers.{position-Some}
+use Rattle.std.proofs.lemmas.List.Sums.{fails_before_first}
 use Rattle.std.proofs.lemmas.Option.{slice_get-get_or, slice_get_within}
 use Rattle.std.proofs.lemmas.Cmp.{nat_list_eq_equiv}
 use Rattle.std.proofs.lemmas.Map.Keys.{any_passes_from_place}
@@ -15,10 +18,10 @@ use Rattle.lego_lexer.specs.Tokens.{Lexeme, Name, Number, OfWord, OfSymbol, lexe
 use Rattle.lego_lexer.specs.declared.token.Token.{Token}
 use Rattle.lego_lexer.specs.declared.token.TokenKind.{TokenKind}
 use Rattle.lego_lexer.specs.declared.token.TokenKind.TheVariants as Kind
-use Rattle.std.proofs.lemmas.Bool.{cases_eq}
+use Rattle.std.proofs.lemmas.Bool.{cases_eq, cases_lt}
 use Rattle.lego_grammar.specs.Grammar.{Names, Item, item_of}
 use Rattle.lego_grammar.specs.Parsing.{GrowsBy, AreTooMany, Differ}
-use Rattle.lego_grammar.specs.Numbering.{HasNumber, IsNumberingFault}
+use Rattle.lego_grammar.specs.Numbering.{HasNumber, IsNumberOf, IsNumberingFault}
 use Rattle.lego_grammar.specs.declared.fault.ParseFault.{ParseFault}
 use Rattle.lego_grammar.specs.declared.fault.ParseFault.TheVariants as Fault
 
@@ -143,11 +146,32 @@ module _ (p : Place) (text : List ℕ) where
       by_test false e = record { more = text ∷ []; same = is ∙ rw e refl; from = only }
 
 -- what is found by its bytes is there
-pub found_at : (names : Names) (text : List ℕ) (n : ℕ) → position (same_text text) names ≡ Some n → HasNumber names (Name text)
-found_at names text n is =
+text_at : (names : Names) (text : List ℕ) (n : ℕ) → position (same_text text) names ≡ Some n → slice_get names n ≡ Some text
+text_at names text n is =
     let at = position-Some (same_text text) names n [] is in
     let same : text ≡ get_or names n [] = (bytes_decides text (get_or names n [])).0 at.1 in
-    (n, slice_get-get_or names n [] at.0 ∙ ap (λ u. Some u) (sym same))
+    slice_get-get_or names n [] at.0 ∙ ap (λ u. Some u) (sym same)
+
+pub found_at : (names : Names) (text : List ℕ) (n : ℕ) → position (same_text text) names ≡ Some n → HasNumber names (Name text)
+found_at names text n is = (n, text_at names text n is)
+
+-- what is there is found
+not_missed : (names : Names) (text : List ℕ) → HasNumber names (Name text) → position (same_text text) names ≡ None → ⊥
+not_missed names text (n, is) none =
+    let lt : n < length names = slice_get_within names n text is in
+    let at : get_or names n text ≡ text = some_same (sym (slice_get-get_or names n text lt) ∙ is) in
+    let passes : same_text text (get_or names n text) ≡ true = ap (same_text text) at ∙ nat_list_eq_equiv.refl text in
+    by_place (cases_lt n (position_or_len (same_text text) names)) lt passes
+  where
+    some_same : {x y : List ℕ} → Some x ≡ Some y → x ≡ y
+    some_same e = cc
+
+    found : (k : ℕ) → k < length names → position_or_len (same_text text) names ≡ k → ⊥
+    found k lt e = grind (arith, nat_tests)
+
+    by_place : (n < position_or_len (same_text text) names) ⊎ (position_or_len (same_text text) names ≤ n) → n < length names → same_text text (get_or names n text) ≡ true → ⊥
+    by_place (inl before) lt passes = true_is_false _ passes (fails_before_first (same_text text) names n text before)
+    by_place (inr behind) lt passes = found (position_or_len (same_text text) names) (omega (arith, behind, lt)) refl
 
 -- the same of a token of the code that is a name
 module _ (bytes : List ℕ) (t : Token) (is : t.kind ≡ Kind.Name) where
@@ -163,6 +187,12 @@ module _ (bytes : List ℕ) (t : Token) (is : t.kind ≡ Kind.Name) where
   pub token_found : (names : Names) (n : ℕ) → position (same_text text_of) names ≡ Some n → HasNumber names (lexeme_of bytes t.kind t.from t.to)
   token_found names n e = subst (λ k. HasNumber names (lexeme_of bytes k t.from t.to)) (sym is) (found_at names text_of n e)
 
+  pub token_number : (names : Names) (n : ℕ) → position (same_text text_of) names ≡ Some n → IsNumberOf names (lexeme_of bytes t.kind t.from t.to) n
+  token_number names n e = subst (λ k. IsNumberOf names (lexeme_of bytes k t.from t.to) n) (sym is) (text_at names text_of n e)
+
+  pub token_not_missed : (names : Names) → HasNumber names (lexeme_of bytes t.kind t.from t.to) → position (same_text text_of) names ≡ None → ⊥
+  token_not_missed names h e = not_missed names text_of (subst (λ k. HasNumber names (lexeme_of bytes k t.from t.to)) is h) e
+
   pub token_too_many : (names : Names) → AreDistinct names → has_name names text_of ≡ false → length names ≡ 1048576
       → IsNumberingFault names (item_of bytes t ∷ []) Fault.NamesFull
   token_too_many names apart new long =
@@ -177,6 +207,16 @@ no_name_needs bytes t names other = by_kind t.kind other
     by_kind (Kind.Number n) other = tt
     by_kind (Kind.Word w) other = tt
     by_kind (Kind.Symbol s) other = tt
+
+-- and has the number 0
+pub other_number : (bytes : List ℕ) (t : Token) (names : Names) → (t.kind ≡ Kind.Name → ⊥) → IsNumberOf names (lexeme_of bytes t.kind t.from t.to) 0
+other_number bytes t names other = by_kind t.kind other
+  where
+    by_kind : (k : TokenKind) → (k ≡ Kind.Name → ⊥) → IsNumberOf names (lexeme_of bytes k t.from t.to) 0
+    by_kind Kind.Name other = absurd (other refl)
+    by_kind (Kind.Number n) other = refl
+    by_kind (Kind.Word w) other = refl
+    by_kind (Kind.Symbol s) other = refl
 
 -- the first tokens, so many, are numbered
 abbrev pub NumberedTo : List Item → Names → ℕ → Type 0

@@ -9,24 +9,16 @@ use Rattle.lego_grammar.specs.declared.surface.Kind.TheVariants.{Lambda, Pi, Sig
 use Rattle.lego_grammar.specs.Written.{Written, Deed, Order}
 use Rattle.lego_grammar.specs.Grammar.{Names, Nested, Item, item, ReadsCommand, Parses, IsUnexpected, IsContext, EndsInBinding, Prevails}
 use Rattle.lego_grammar.specs.Machine.{Frame, Mode, Start, Between, Done, State, state, move}
-use Rattle.lego_grammar.specs.Scanning.{goes, start_of}
+use Rattle.lego_grammar.specs.Scanning.{Begin, Prevailing, goes, start_of}
 use Rattle.lego_grammar.proofs.Transitions.{Closes, Operand, Move}
 use Rattle.lego_grammar.proofs.Sound.{Holds}
 use Rattle.lego_grammar.proofs.Moving.{move_from}
 use Rattle.lego_grammar.proofs.Beginnings.{ran, texts, known_texts, holds, unexpected_at}
-use Rattle.lego_grammar.proofs.Scans.{Begin, holds_at, kind, finished, begun, goes_append, begins_not, none_on}
+use Rattle.lego_grammar.proofs.Scans.{holds_at, kind, finished, begun, goes_append, begins_not, none_on}
 
 -- a `;`
 abbrev pub end : Place → Item
 end p = record { lexeme = OfSymbol Semicolon; place = p }
-
--- The scan from m prevails: it went over the first n tokens to st, and token n is the first one without a reading.
-pub record Prevailing (tokens : List Item) (n : ℕ) (m : Mode) (st : State) : Type 0 where
-  pub begin : Begin m
-  pub there : goes (take n tokens) (Some (state m [])) ≡ Some st
-  pub unexpected : IsUnexpected tokens n
-  pub prevails : (deed : Deed) → start_of deed ≡ m → Prevails (take n tokens) deed
-  pub only : (names : Names) (more : List Item) (c : Order) → Parses names (take n tokens ++ more) c → Prevails (take n tokens) c.deed → start_of c.deed ≡ m
 
 less : (n : ℕ) → n ≤ suc n
 less n = omega arith

@@ -3,7 +3,9 @@ use Rattle.std.proofs.Common.{◌≡◌, ◌⊎◌, inl, inr, ℕ, zero, suc, �
 use Rattle.lego_grammar.specs.Written.{Deed, Order}
 use Rattle.lego_grammar.specs.Grammar.{Names, Nested, Item, item, ReadsCommand, Parses, IsContext}
 use Rattle.lego_grammar.specs.Machine.{Frame, Mode, Start, Between, Done, State, state, move}
-use Rattle.lego_grammar.specs.Scanning.{class, goes, start_of}
+use Rattle.lego_grammar.specs.Scanning.{Begin, class, goes, mode_at, start_of}
+use Rattle.lego_grammar.specs.declared.scan.Start.{Start as Code}
+use Rattle.lego_grammar.specs.declared.scan.Start.TheVariants as Code
 use Rattle.lego_grammar.proofs.Transitions.{Move, Runs, runs_on}
 use Rattle.lego_grammar.proofs.Complete.{kept_deed, complete_command}
 use Rattle.lego_grammar.proofs.Sound.{Holds}
@@ -11,10 +13,9 @@ use Rattle.lego_grammar.proofs.Finish.{finish}
 use Rattle.lego_grammar.proofs.Beginnings.{goes_none, ran, texts, known_texts, some_text, holds, no_bindings, gone, map-both}
 use Rattle.lego_grammar.proofs.Sides.{run_in_bindings, run_elsewhere}
 
--- the two starts
-pub data Begin : Mode → Type 0 where
-  other : Begin Start
-  context : Begin (Between [])
+pub begin_at : (s : Code) → Begin (mode_at s)
+begin_at Code.Context = Begin.context
+begin_at Code.Other = Begin.other
 
 pub holds_at : {m : Mode} → Begin m → (names : Names) → Holds names false m [] []
 holds_at Begin.other names = refl

@@ -1,5 +1,5 @@
 -- What ends of a stack's frames, by whether the frame on top is taken.
-use Rattle.std.proofs.Common.{◌≡◌, ℕ, suc, ◌<◌, List, [], ◌∷◌, length, Bool, true, false, Some, None, arith, refl, sym, ap, ◌∙◌}
+use Rattle.std.proofs.Common.{◌≡◌, suc, ◌<◌, List, [], ◌∷◌, length, Bool, true, false, Some, None, arith, refl, sym, ap, ◌∙◌}
 use Rattle.lego_grammar.specs.Written.{Written}
 use Rattle.lego_grammar.specs.Machine.{Frame, sums, pending, wrapped, summed, closed}
 use Rattle.lego_grammar.specs.Frames.{frame_of}

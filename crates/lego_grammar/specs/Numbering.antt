@@ -25,6 +25,13 @@ HasNumber names (Number n) = Unit {0}
 HasNumber names (OfWord w) = Unit {0}
 HasNumber names (OfSymbol s) = Unit {0}
 
+-- a name's number is that of its text; any other token's is 0
+abbrev pub IsNumberOf : Names → Lexeme → ℕ → Type 0
+IsNumberOf names (Name text) n = slice_get names n ≡ Some text
+IsNumberOf names (Number i) n = n ≡ 0
+IsNumberOf names (OfWord w) n = n ≡ 0
+IsNumberOf names (OfSymbol s) n = n ≡ 0
+
 -- the text of each name among the tokens is numbered
 abbrev pub AreNumbered : Names → List Item → Type 0
 AreNumbered names tokens = All (λ t. HasNumber names t.lexeme) tokens

@@ -1,10 +1,10 @@
 -- Scans: the machine over tokens, of which it follows only the shape, from one of two starts.
-use Rattle.std.specs.Prelude.{◌≡◌, ℕ, suc, ◌≤◌, ◌<◌, List, [], ◌∷◌, Option, Some, None, false, take, length}
+use Rattle.std.specs.Prelude.{◌≡◌, ℕ, suc, ◌≤◌, ◌<◌, List, [], ◌∷◌, ◌++◌, Option, Some, None, false, take, length}
 use Rattle.lego_lexer.specs.Tokens.{Lexeme, Name, Number, OfWord, OfSymbol}
 use Rattle.lego_lexer.specs.declared.token.TokenKind.{TokenKind}
 use Rattle.lego_lexer.specs.declared.token.TokenKind.TheVariants as Token
-use Rattle.lego_grammar.specs.Written.{Bound, Deed}
-use Rattle.lego_grammar.specs.Grammar.{Item}
+use Rattle.lego_grammar.specs.Written.{Bound, Deed, Order}
+use Rattle.lego_grammar.specs.Grammar.{Names, Item, Parses, IsUnexpected, Prevails}
 use Rattle.lego_grammar.specs.Machine as M
 use Rattle.lego_grammar.specs.Machine.{Mode, Between, Done, Frame, State, state, move, level}
 use Rattle.lego_grammar.specs.declared.scan.Start.{Start}
@@ -39,6 +39,10 @@ mode_at Start.Other = M.Start
 abbrev pub Shallow : Mode → List Frame → List Item → ℕ → Type 0
 Shallow m fs is n = (j : ℕ) (s : State) → j < n → goes (take j is) (Some (state m fs)) ≡ Some s → level s ≤ 500
 
+-- the mode behind a whole command
+abbrev pub HasEnded : Mode → Type 0
+HasEnded m = (deed : Deed) × (m ≡ Done deed)
+
 -- the modes of a context command that stand inside a binding
 abbrev pub Inside : Mode → Type 0
 Inside (Between _) = ⊥
@@ -50,7 +54,7 @@ abbrev pub IsStage : Stage → Mode → Type 0
 IsStage Stage.Nothing m = m ≡ Between []
 IsStage Stage.Inside m = Inside m
 IsStage Stage.Behind m = (b : Bound) × (bs : List Bound) × (m ≡ Between (b ∷ bs))
-IsStage Stage.Ended m = (deed : Deed) × (m ≡ Done deed)
+IsStage Stage.Ended m = HasEnded m
 
 -- the first token whose state is more than 500 levels deep, of those up to token `stop`, or that there is none
 abbrev pub IsDepth : List Item → Mode → ℕ → Option ℕ → Type 0
@@ -65,6 +69,26 @@ pub record IsScan (items : List Item) (m : Mode) (scan : Scan) : Type 0 where
   pub stops : scan.stop < length items → goes (take (suc scan.stop) items) (Some (state m [])) ≡ None
   pub stage : IsStage scan.stage state_there.mode
   pub depth : IsDepth items m scan.stop scan.deep
+
+-- the two starts
+pub data Begin : Mode → Type 0 where
+  other : Begin M.Start
+  context : Begin (Between [])
+
+-- The scan from m prevails: it went over the first n tokens to st, and token n is the first one without a reading.
+pub record Prevailing (tokens : List Item) (n : ℕ) (m : Mode) (st : State) : Type 0 where
+  pub begin : Begin m
+  pub there : goes (take n tokens) (Some (state m [])) ≡ Some st
+  pub unexpected : IsUnexpected tokens n
+  pub prevails : (deed : Deed) → start_of deed ≡ m → Prevails (take n tokens) deed
+  pub only : (names : Names) (more : List Item) (c : Order) → Parses names (take n tokens ++ more) c → Prevails (take n tokens) c.deed → start_of c.deed ≡ m
+
+-- the scan says how tokens are nested that are no command
+pub record Decides (items : List Item) (scan : Scan) : Type 0 where
+  pub mode : Mode
+  pub scanned : IsScan items mode scan
+  pub before : scan.stop < length items
+  pub prevailing : Prevailing items scan.stop mode scanned.state_there
 
 -- the tokens are a command of this start, and no state is more than 500 levels deep
 pub record IsWhole (items : List Item) (m : Mode) : Type 0 where

@@ -1,6 +1,8 @@
 -- What the parser's stack stands for.
-use Rattle.std.specs.Prelude.{◌≡◌, List, [], ◌∷◌, Bool, true, false, Option, Some, None, MatchOption, ◌<◌, length}
-use Rattle.lego_grammar.specs.Machine.{State, state}
+use Rattle.std.specs.Prelude.{◌≡◌, ℕ, List, [], ◌∷◌, Bool, true, false, Option, Some, None, MatchOption, ◌<◌, length}
+use Rattle.lego_base.specs.declared.place.Place.{Place}
+use Rattle.lego_lexer.specs.declared.token.TokenKind.{TokenKind}
+use Rattle.lego_grammar.specs.Machine.{State, state, acts}
 use Rattle.lego_grammar.specs.Written.{Written}
 use Rattle.lego_grammar.specs.Machine as M
 use Rattle.lego_grammar.specs.Frames.{frame_of, frames_of, mode_of}
@@ -30,3 +32,7 @@ Takes kind before taken after =
 abbrev pub Ends : (Written → List M.Frame → Written × List M.Frame) → Bool → Written → List M.Frame → Written → List M.Frame → Type 0
 Ends ends true v fs w gs = (ends v fs ≡ ends w gs) × (length gs < length fs)
 Ends ends false v fs w gs = ends v fs ≡ (w, gs)
+
+-- the mode behind a token inside or behind an action, whatever is awaited
+abbrev pub Acts : TokenKind → Place → ℕ → M.Mode → Option Mode → Type 0
+Acts kind place name mode next = (build : Bool) (s : Stack) → Gives (acts build kind place name mode (stack s)) next s

@@ -1,10 +1,13 @@
 //! The moves at the beginning of a command, inside its actions, and between the bindings
 //! of a context command; and one move of the whole machine.
-ghost use Rattle.std.specs.Prelude.{◌≡◌, ◌≢◌, [], map, MatchOption};
+ghost use Rattle.std.specs.Prelude.{◌≡◌, ◌≢◌, ℕ, [], map, MatchOption};
+ghost use Rattle.lego_base.specs.declared.place.Place.{Place};
+ghost use Rattle.lego_lexer.specs.declared.token.TokenKind.{TokenKind};
 ghost use Rattle.lego_grammar.specs.Written.{Bindings};
-ghost use Rattle.lego_grammar.specs.Surface.{bound_of};
-ghost use Rattle.lego_grammar.specs.Machine.{Done as DoneMode};
+ghost use Rattle.lego_grammar.specs.Surface.{bound_of, deed_of_act};
+ghost use Rattle.lego_grammar.specs.Machine.{WantNext as WantNextMode, WantUndo as WantUndoMode, WantForget as WantForgetMode, WantDischarge as WantDischargeMode, BehindSave as BehindSaveMode, WantEnd as WantEndMode, Done as DoneMode};
 ghost use Rattle.lego_grammar.specs.Frames.{mode_of};
+ghost use Rattle.lego_grammar.specs.Stack.{Acts};
 
 use crate::command::{Act, Binding};
 use crate::machine::{Frame, Mode, Names, Site, Use};
@@ -230,32 +233,13 @@ impl Stack {
             Mode::BehindGoal => self.behind_goal(kind, place, name),
             Mode::BehindGoalName(at, goal) => self.behind_goal_name(kind, place, name, at, goal),
             Mode::WantIntros(names) => self.intros(kind, place, name, names),
-            Mode::WantNext => Ok(match kind {
-                TokenKind::Number(number) => Some(Mode::WantEnd(Act::Next { number })),
-                _ => None,
-            }),
-            Mode::WantUndo => Ok(match kind {
-                TokenKind::Number(count) => Some(Mode::WantEnd(Act::Undo { count })),
-                _ => None,
-            }),
-            Mode::WantForget => Ok(match kind {
-                TokenKind::Name => Some(Mode::WantEnd(Act::Forget { place, name })),
-                _ => None,
-            }),
-            Mode::WantDischarge => Ok(match kind {
-                TokenKind::Name => Some(Mode::WantEnd(Act::Discharge { place, name })),
-                _ => None,
-            }),
-            Mode::BehindSave => Ok(match kind {
-                TokenKind::Name => Some(Mode::WantEnd(Act::Save { name: Some(name) })),
-                TokenKind::Symbol(Symbol::Semicolon) => Some(Mode::Done(Act::Save { name: None })),
-                _ => None,
-            }),
-            Mode::WantEnd(act) => Ok(match kind {
-                TokenKind::Symbol(Symbol::Semicolon) => Some(Mode::Done(act)),
-                _ => None,
-            }),
-            Mode::Done(_act) => Ok(None),
+            Mode::WantNext => Ok(next(kind)),
+            Mode::WantUndo => Ok(undo(kind)),
+            Mode::WantForget => Ok(forget(kind, place, name)),
+            Mode::WantDischarge => Ok(discharge(kind, place, name)),
+            Mode::BehindSave => Ok(save(kind, name)),
+            Mode::WantEnd(act) => Ok(ended(kind, act)),
+            Mode::Done(act) => Ok(behind_end(act)),
         }
     }
 
@@ -297,4 +281,73 @@ fn finished(bindings: Vec<Binding>) -> Option<Mode>
             bindings: List::of(bindings),
         }))
     }
+}
+
+/// Behind `Next`.
+fn next(kind: TokenKind) -> Option<Mode>
+    ensures { (place : Place) (name : ℕ) → Acts kind place name WantNextMode result }
+{
+    match kind {
+        TokenKind::Number(number) => Some(Mode::WantEnd(Act::Next { number })),
+        _ => None,
+    }
+}
+
+/// Behind `Undo`.
+fn undo(kind: TokenKind) -> Option<Mode>
+    ensures { (place : Place) (name : ℕ) → Acts kind place name WantUndoMode result }
+{
+    match kind {
+        TokenKind::Number(count) => Some(Mode::WantEnd(Act::Undo { count })),
+        _ => None,
+    }
+}
+
+/// Behind `Forget`.
+fn forget(kind: TokenKind, place: Place, name: u32) -> Option<Mode>
+    ensures { Acts kind place name WantForgetMode result }
+{
+    match kind {
+        TokenKind::Name => Some(Mode::WantEnd(Act::Forget { place, name })),
+        _ => None,
+    }
+}
+
+/// Behind `Discharge`.
+fn discharge(kind: TokenKind, place: Place, name: u32) -> Option<Mode>
+    ensures { Acts kind place name WantDischargeMode result }
+{
+    match kind {
+        TokenKind::Name => Some(Mode::WantEnd(Act::Discharge { place, name })),
+        _ => None,
+    }
+}
+
+/// Behind `Save`.
+fn save(kind: TokenKind, name: u32) -> Option<Mode>
+    ensures { (place : Place) → Acts kind place name BehindSaveMode result }
+{
+    match kind {
+        TokenKind::Name => Some(Mode::WantEnd(Act::Save { name: Some(name) })),
+        TokenKind::Symbol(Symbol::Semicolon) => Some(Mode::Done(Act::Save { name: None })),
+        _ => None,
+    }
+}
+
+/// Where only the end of a command may come.
+fn ended(kind: TokenKind, act: Act) -> Option<Mode>
+    ensures { (place : Place) (name : ℕ) → Acts kind place name (WantEndMode (deed_of_act act)) result }
+{
+    match kind {
+        TokenKind::Symbol(Symbol::Semicolon) => Some(Mode::Done(act)),
+        _ => None,
+    }
+}
+
+/// Behind the end of a command nothing may come.
+fn behind_end(act: Act) -> Option<Mode>
+    ensures { (kind : TokenKind) (place : Place) (name : ℕ) → Acts kind place name (DoneMode (deed_of_act act)) result }
+{
+    drop(act);
+    None
 }

@@ -26,3 +26,6 @@ pub use laws::{
 };
 pub use parser::parse;
 pub use surface::{Kind, Part, Surface};
+
+#[cfg(test)]
+mod tests;

@@ -1,5 +1,11 @@
 //! The parser's machine: what may come next, and a stack of what is awaited.
+ghost use Rattle.std.specs.Prelude.{map};
+ghost use Rattle.lego_grammar.specs.Surface.{bound_of};
+ghost use Rattle.lego_grammar.specs.Machine.{Between as IsBetween};
+ghost use Rattle.lego_grammar.specs.Scanning.{IsStage};
+
 use crate::command::{Act, Binding};
+use crate::scan::Stage;
 use crate::surface::{Kind, Part, Surface};
 use lego_base::Place;
 use lego_term::{List, Mark};
@@ -169,6 +175,21 @@ impl Site {
     }
 }
 
+impl Mode {
+    ghost use Rattle.lego_grammar.specs.Frames.{mode_of};
+
+    /// Where a context command stands in this mode.
+    pub fn stage(&self) -> Stage
+        ensures { IsStage result (mode_of self.now) }
+    {
+        match self {
+            Mode::Between(bindings) => stage_behind(bindings.as_slice()),
+            Mode::Done(_) => Stage::Ended,
+            _ => Stage::Inside,
+        }
+    }
+}
+
 impl Names {
     ghost use Rattle.std.specs.Prelude.{◌≡◌, ◌≢◌, [], MatchOption};
     ghost use Rattle.lego_grammar.specs.Written.{Intros};
@@ -187,5 +208,15 @@ impl Names {
             places: List::of(places),
             names: List::of(names),
         }))
+    }
+}
+
+/// Where a context command stands behind these bindings.
+fn stage_behind(bindings: &[Binding]) -> Stage
+    ensures { IsStage result (IsBetween (map bound_of bindings.now)) }
+{
+    match bindings {
+        [] => Stage::Nothing,
+        [_, ..] => Stage::Behind,
     }
 }

@@ -1,9 +1,11 @@
 //! The parser.
-ghost use Rattle.std.specs.Prelude.{List, ℕ, map, IfOk, IfErr};
-ghost use Rattle.lego_grammar.specs.Grammar.{Names as Numbering, item_of};
+ghost use Rattle.std.specs.Prelude.{List, ℕ, ◌≡◌, ◌<◌, map, length, get_or, IfOk, IfErr};
+ghost use Rattle.lego_lexer.specs.declared.token.Token.{Token as Placed};
+ghost use Rattle.lego_grammar.specs.declared.fault.ParseFault.TheVariants as Fault;
+ghost use Rattle.lego_grammar.specs.Grammar.{Names as Numbering, Item, item_of};
 ghost use Rattle.lego_grammar.specs.Parsing.{EndWithSemicolon, GrowsBy, ParsesTo, IsNoCommand};
 ghost use Rattle.lego_grammar.specs.Numbering.{NamesHaveRanges};
-ghost use Rattle.lego_grammar.specs.Scanning.{mode_at, IsScan, IsWhole};
+ghost use Rattle.lego_grammar.specs.Scanning.{mode_at, IsScan, Decides, IsWhole};
 ghost use Rattle.lego_grammar.specs.Surface.{order_of};
 ghost use Rattle.lego_grammar.specs.declared.scan.Start.TheVariants.{Context, Other};
 
@@ -11,7 +13,7 @@ use crate::build::build;
 use crate::command::Command;
 use crate::fault::ParseFault;
 use crate::interning::intern_names;
-use crate::scan::{Scan, Start};
+use crate::scan::{Scan, Stage, Start};
 use lego_base::Names;
 use lego_lexer::Token;
 use std::alloc::Global;
@@ -56,6 +58,76 @@ fn decide(tokens: &[Token], context: Scan, other: Scan) -> Result<Start, ParseFa
     ensures whole { IfOk result (λ start. (bytes : List ℕ) → IsWhole (map (item_of bytes) tokens.now) (mode_at start)) }
     ensures cause { IfErr result (λ fault. (held : Numbering) (bytes : List ℕ) → IsNoCommand held (map (item_of bytes) tokens.now) fault) }
 {
-    let _held = (tokens.len(), context, other);
-    Err(ParseFault::Memory)
+    if context.stop == tokens.len() {
+        return accept(tokens, context, Start::Context);
+    }
+    if other.stop == tokens.len() {
+        return accept(tokens, other, Start::Other);
+    }
+    Err(refuse(tokens, later(context, other)))
+}
+
+/// The start of a scan that went over all tokens, unless one of them is too deep.
+fn accept(tokens: &[Token], scan: Scan, start: Start) -> Result<Start, ParseFault>
+    requires ends { EndWithSemicolon tokens.now }
+    requires scanned { (bytes : List ℕ) → IsScan (map (item_of bytes) tokens.now) (mode_at start) scan }
+    requires all { scan.stop ≡ length tokens.now }
+    ensures whole { IfOk result (λ start. (bytes : List ℕ) → IsWhole (map (item_of bytes) tokens.now) (mode_at start)) }
+    ensures cause { IfErr result (λ fault. (held : Numbering) (bytes : List ℕ) → IsNoCommand held (map (item_of bytes) tokens.now) fault) }
+{
+    match scan.deep {
+        Some(at) if at < tokens.len() => Err(too_deep(tokens, at)),
+        _ => Ok(start),
+    }
+}
+
+/// The scan that says how tokens are nested that are no command: the one that went further;
+/// where both stopped at one token, that of contexts inside a binding, and else the other.
+fn later(context: Scan, other: Scan) -> Scan
+    ensures { (items : List Item) → IsScan items (mode_at Context) context → IsScan items (mode_at Other) other
+        → context.stop < length items → other.stop < length items → Decides items result }
+{
+    if context.stop > other.stop {
+        return context;
+    }
+    if context.stop < other.stop {
+        return other;
+    }
+    match context.stage {
+        Stage::Behind => other,
+        _ => context,
+    }
+}
+
+/// The refusal of tokens that are no command, by the scan that says how they are nested.
+fn refuse(tokens: &[Token], scan: Scan) -> ParseFault
+    requires { (bytes : List ℕ) → Decides (map (item_of bytes) tokens.now) scan }
+    ensures { (held : Numbering) (bytes : List ℕ) → IsNoCommand held (map (item_of bytes) tokens.now) result }
+{
+    match scan.stage {
+        // Behind an end no command goes on, so nothing is nested there.
+        Stage::Ended => unexpected(tokens, scan.stop),
+        _ => match scan.deep {
+            Some(at) => too_deep(tokens, at),
+            None => unexpected(tokens, scan.stop),
+        },
+    }
+}
+
+fn unexpected(tokens: &[Token], at: usize) -> ParseFault
+    requires { at < length tokens.now }
+    ensures { (t : Placed) → result ≡ Fault.Unexpected (get_or tokens.now at t).place }
+{
+    ParseFault::Unexpected {
+        place: tokens[at].place,
+    }
+}
+
+fn too_deep(tokens: &[Token], at: usize) -> ParseFault
+    requires { at < length tokens.now }
+    ensures { (t : Placed) → result ≡ Fault.TooDeep (get_or tokens.now at t).place }
+{
+    ParseFault::TooDeep {
+        place: tokens[at].place,
+    }
 }

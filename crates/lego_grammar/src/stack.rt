@@ -3,7 +3,7 @@ ghost use Rattle.std.specs.Prelude.{◌≡◌};
 ghost use Rattle.lego_grammar.specs.Machine.{height as level_of};
 ghost use Rattle.lego_grammar.specs.Frames.{frames_of};
 
-use crate::machine::Frame;
+use crate::machine::{Frame, Mode};
 use std::alloc::{AllocError, Global};
 
 /// What is awaited, the newest last.
@@ -20,7 +20,8 @@ pub(crate) struct Stack {
 
 impl Stack {
     ghost use Rattle.std.specs.Prelude.{[], ◌∷◌, IfOk, OnOk, MatchOption};
-    ghost use Rattle.lego_grammar.specs.Frames.{frame_of};
+    ghost use Rattle.lego_grammar.specs.Machine.{state, level as level_in};
+    ghost use Rattle.lego_grammar.specs.Frames.{frame_of, mode_of};
     ghost use Rattle.lego_grammar.specs.Stack.{stack};
 
     pub fn new(alloc: Global, building: bool) -> Stack
@@ -40,6 +41,16 @@ impl Stack {
         ensures { result ≡ level_of (stack self.now) }
     {
         self.height
+    }
+
+    /// The level of the next token in this mode.
+    pub fn level(&self, mode: &Mode) -> usize
+        ensures { result ≡ level_in (state (mode_of mode.now) (stack self.now)) }
+    {
+        match mode {
+            Mode::WantLevel(_) | Mode::WantName(..) | Mode::BehindName(..) => self.height + 1,
+            _ => self.height,
+        }
     }
 
     pub fn push(&mut self, frame: Frame) -> Result<(), AllocError>

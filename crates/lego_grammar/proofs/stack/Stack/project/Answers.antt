@@ -1,5 +1,4 @@
-use Rattle.std.proofs.Common.{arith, rules, ap, ◌∙◌, List}
-use Rattle.lego_grammar.specs.Surface.{written, projected}
+use Rattle.lego_grammar.specs.Surface.{written}
 use Rattle.lego_grammar.proofs.TreeLemmas.{projected-last}
 use Rattle.lego_grammar.proofs.stack.Stack.project.Goals as goal
 
