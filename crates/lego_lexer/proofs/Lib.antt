@@ -11,4 +11,5 @@ pub mod UniqueTokens
 pub mod UniqueCuts
 pub mod Scripts
 pub mod Ranges
+pub mod LastToken
 mod Sanity

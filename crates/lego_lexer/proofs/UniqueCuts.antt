@@ -15,7 +15,7 @@ use Rattle.lego_lexer.proofs.CommandLemmas.{gap_then, gap_unbroken}
 use Rattle.lego_lexer.proofs.UniqueGaps.{due_end, due_token, due_open, same_gap, same_comment, begins_before}
 
 -- no unbroken byte or comment stands first, nor the `*` of a `(*`
-record Halt (bytes : List ℕ) : Type 0 where
+pub record Halt (bytes : List ℕ) : Type 0 where
   pub no_byte : (b : ℕ) (rest : List ℕ) → b ≢ 59 → begins_comment bytes ≡ false → bytes ≡ b ∷ rest → ⊥
   pub no_comment : (c rest : List ℕ) → IsComment c → bytes ≡ c ++ rest → ⊥
   pub no_star : (b : ℕ) (rest : List ℕ) → bytes ≡ b ∷ rest → nat_eq b 42 ≡ false
@@ -23,7 +23,7 @@ record Halt (bytes : List ℕ) : Type 0 where
 halt_end : Halt []
 halt_end = record { no_byte = λ b rest n f e. cc; no_comment = λ c rest h e. due_end.no_comment c rest h e; no_star = λ b rest e. absurd (cc) }
 
-halt_semicolon : (bytes : List ℕ) → Halt (59 ∷ bytes)
+pub halt_semicolon : (bytes : List ℕ) → Halt (59 ∷ bytes)
 halt_semicolon bytes = record {
   no_byte = λ b rest n f e. n (cc);
   no_comment = λ c rest h e. true≢false (sym (begins_before c rest h.begins) ∙ (ap begins_comment (sym e) ∙ semicolon_begins_none bytes));
@@ -49,7 +49,7 @@ halt_open bytes o = record {
   no_star = λ b rest e. open_first b rest (ap begins_comment (sym e) ∙ o.begins);
 }
 
-stable : (b : ℕ) (bytes s : List ℕ) → Halt s → begins_comment (b ∷ bytes) ≡ false → begins_comment (b ∷ (bytes ++ s)) ≡ false
+pub stable : (b : ℕ) (bytes s : List ℕ) → Halt s → begins_comment (b ∷ bytes) ≡ false → begins_comment (b ∷ (bytes ++ s)) ≡ false
 stable b [] [] p h = refl
 stable b [] (x ∷ s) p h = and_false (nat_eq b 40) (nat_eq x 42) (p.no_star x s refl)
 stable b (c ∷ bytes) s p h = h

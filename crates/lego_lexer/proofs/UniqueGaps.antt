@@ -61,7 +61,7 @@ due_token bytes t = record {
   no_comment = λ c rest h e. true≢false (sym (ap begins_comment e ∙ begins_before c rest h.begins) ∙ t.no_comment);
 }
 
-blank_not_open : (b : ℕ) (rest : List ℕ) → is_blank b ≡ true → begins_comment (b ∷ rest) ≡ true → ⊥
+pub blank_not_open : (b : ℕ) (rest : List ℕ) → is_blank b ≡ true → begins_comment (b ∷ rest) ≡ true → ⊥
 blank_not_open b [] h k = true≢false (sym k)
 blank_not_open b (c ∷ rest) h k =
     let other : b ≢ 40 = λ e. true≢false (sym h ∙ ap is_blank e) in

@@ -1,5 +1,5 @@
 -- Commands cut from bytes.
-use Rattle.std.specs.Prelude.{◌≢◌, ℕ, ◌+◌, ◌≤◌, ◌<◌, List, [], ◌∷◌, ◌++◌, IsFalse, length}
+use Rattle.std.specs.Prelude.{◌≡◌, ◌≢◌, ℕ, ◌+◌, ◌≤◌, ◌<◌, List, [], ◌∷◌, ◌++◌, IsFalse, length}
 use Rattle.lego_base.specs.Place.{behind}
 use Rattle.lego_base.specs.declared.place.Place.{Place}
 use Rattle.lego_lexer.specs.Bytes.{Gap, IsComment, IsOpenComment, BeginsToken, begins_comment}
@@ -11,6 +11,13 @@ pub data Unbroken : List ℕ → Type 0 where
   none : Unbroken []
   byte : {b : ℕ} {bytes : List ℕ} → b ≢ 59 → IsFalse (begins_comment (b ∷ bytes)) → Unbroken bytes → Unbroken (b ∷ bytes)
   comment : {c bytes : List ℕ} → IsComment c → Unbroken bytes → Unbroken (c ++ bytes)
+
+-- the bytes of a command, from its first token through its `;`
+pub record IsCommandText (bytes : List ℕ) : Type 0 where
+  pub body : List ℕ
+  pub is : bytes ≡ body ++ 59 ∷ []
+  pub unbroken : Unbroken body
+  pub begins : BeginsToken bytes
 
 -- what stands first in bytes, of which the first has this index
 pub data IsCut (from : ℕ) : List ℕ → Code.Cut → Type 0 where

@@ -1,12 +1,13 @@
 -- What is written for a command is its answer.
 use Rattle.std.proofs.Common.{◌≡◌, true, false, List, Option, Some, None, Result, Ok, Err, IfOk, IfErr, IfSome, IfNone, OnErr, inl, inr, sym, ◌∙◌, subst}
+use Rattle.lego_base.specs.Names.{AreDistinct}
 use Rattle.lego_base.specs.declared.place.Place.{Place}
 use Rattle.lego_grammar.specs.Grammar.{Names}
 use Rattle.lego_grammar.specs.Written.{Order}
 use Rattle.lego_lexer.specs.Commands.{CommandText}
 use Rattle.lego_kernel.specs.declared.entry.Entry.{Entry as Item}
-use Rattle.lego_session.specs.Commands.{IsCommand, IsUnreadBy, Answers}
-use Rattle.lego_session.specs.Names.{AreKnown, Grows}
+use Rattle.lego_session.specs.Commands.{Grows, IsCommand, IsUnreadBy, Answers}
+use Rattle.lego_session.specs.Names.{AreKnown}
 use Rattle.lego_session.specs.Reading.{is_built}
 use Rattle.lego_session.specs.Refusals.{IsRefusedBy}
 use Rattle.lego_session.specs.Steps.{Step, IsRefusal}
@@ -36,27 +37,27 @@ step_written names old new o (Err refusal) (Some a) ok (inr h) err w =
 
 -- bytes that are no command, with their refusal written down
 pub unread_written : (held names : Names) (es : List Item) (c : CommandText) (p : Place) (cause : Cause) (refusal : Refusal) (written : Option Answered)
-    → Grows held names → IsUnreadBy held c p cause → IsRefusedBy names es p cause refusal.place refusal.cause refusal.text
+    → Grows c held names → AreDistinct names → IsUnreadBy held c p cause → IsRefusedBy names es p cause refusal.place refusal.cause refusal.text
     → IsWritten (Err refusal) written
     → IfSome written (λ a. Answers held es c (record { refused = a.refused; text = a.text }) names es)
-unread_written held names es c p cause refusal None grows unread is w = tt
-unread_written held names es c p cause refusal (Some a) grows unread (inl memory) w = absurd (w.0 memory.0)
-unread_written held names es c p cause refusal (Some a) grows (inl memory) (inr is) w = absurd (is.0 memory)
-unread_written held names es c p cause refusal (Some a) grows (inr h) (inr is) w =
+unread_written held names es c p cause refusal None grows differ unread is w = tt
+unread_written held names es c p cause refusal (Some a) grows differ unread (inl memory) w = absurd (w.0 memory.0)
+unread_written held names es c p cause refusal (Some a) grows differ (inl memory) (inr is) w = absurd (is.0 memory)
+unread_written held names es c p cause refusal (Some a) grows differ (inr h) (inr is) w =
     subst (λ r. Answers held es c (record { refused = r; text = a.text }) names es) (sym w.1)
-    (subst (λ t. Answers held es c (record { refused = true; text = t }) names es) (sym (w.2 ∙ is.3)) (Answers.unread grows h))
+    (subst (λ t. Answers held es c (record { refused = true; text = t }) names es) (sym (w.2 ∙ is.3)) (Answers.unread grows differ h))
 
 -- a command that ran, written down
 pub command_written : (held names : Names) (old new : List Item) (c : CommandText) (o : Order) (written : Option Answered)
-    → Grows held names → IsCommand names c o → is_built o.deed ≡ true
+    → Grows c held names → AreDistinct names → IsCommand names c o → is_built o.deed ≡ true
     → IfSome written (λ a. Step names old o (record { refused = a.refused; text = a.text }) new)
     → IfSome written (λ a. Answers held old c (record { refused = a.refused; text = a.text }) names new)
-command_written held names old new c o None grows command built step = tt
-command_written held names old new c o (Some a) grows command built step = Answers.step grows command built step
+command_written held names old new c o None grows differ command built step = tt
+command_written held names old new c o (Some a) grows differ command built step = Answers.step grows differ command built step
 
 -- the names of the entries stay held, whatever is written
 pub written_known : (held names : Names) (old new : List Item) (c : CommandText) (written : Option Answered)
-    → Grows held names → AreKnown held old → IfSome written (λ a. Answers held old c (record { refused = a.refused; text = a.text }) names new)
+    → Grows c held names → AreKnown held old → IfSome written (λ a. Answers held old c (record { refused = a.refused; text = a.text }) names new)
     → IfNone written (new ≡ old) → AreKnown names new
 written_known held names old new c None grows known answers none = subst (AreKnown names) (sym none) (known_more old grows known)
 written_known held names old new c (Some a) grows known answers none = answered_known answers known

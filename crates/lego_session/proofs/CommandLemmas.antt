@@ -1,19 +1,26 @@
 -- From what the parser answers to what bytes are, and why they are no command.
-use Rattle.std.proofs.Common.{◌≡◌, ℕ, zero, suc, ◌<◌, ◌≤◌, List, [], ◌∷◌, map, length, slice_get, Some, None, option_map, ◌⊎◌, inl, inr, refl, sym, ap, ◌∙◌, subst, arith, ◌≡◌, false}
+use Rattle.std.proofs.Common.{◌≡◌, ℕ, zero, suc, ◌<◌, ◌≤◌, List, [], ◌∷◌, ◌++◌, map, length, slice_get, Some, None, option_map, ◌⊎◌, inl, inr, refl, sym, ap, ◌∙◌, subst, arith, ◌≡◌, false}
+use Rattle.std.specs.Prelude.{Contains}
+use Rattle.std.proofs.lemmas.List.{append-nil}
+use Rattle.std.proofs.lemmas.List.Elements.{All-nil, All-weaker}
 use Rattle.std.proofs.lemmas.Option.{slice_get-map, get_or_from_slice_get}
 use Rattle.lego_base.specs.declared.place.Place.{Place}
-use Rattle.lego_lexer.specs.Tokens.{Tokens, placed, Refused}
+use Rattle.lego_lexer.specs.Tokens.{Name, OfSymbol, lexeme_of, Placed, Tokens, placed, Refused}
 use Rattle.lego_lexer.specs.declared.token.LexFault.{LexFault}
 use Rattle.lego_lexer.specs.declared.token.LexFault.TheVariants as Lex
-use Rattle.lego_lexer.specs.Commands.{CommandText}
+use Rattle.lego_lexer.specs.Commands.{CommandText, IsCommandText}
 use Rattle.lego_lexer.specs.declared.token.Token.{Token}
+use Rattle.lego_lexer.specs.declared.token.TokenKind.{TokenKind}
+use Rattle.lego_lexer.specs.declared.token.TokenKind.TheVariants as Kind
+use Rattle.lego_lexer.specs.declared.token.Symbol.TheVariants.{Semicolon}
+use Rattle.lego_lexer.proofs.LastToken.{command_ends}
 use Rattle.lego_lexer.proofs.Ranges.{token_in_range}
 use Rattle.lego_grammar.specs.Grammar.{Names, Item, item, item_of, Nested, ReadsCommand, IsUnexpected, IsTooDeep}
-use Rattle.lego_grammar.specs.Parsing.{ParsesTo, AreTooMany, IsNoCommand}
+use Rattle.lego_grammar.specs.Parsing.{EndWithSemicolon, GrowsBy, ParsesTo, AreTooMany, IsNoCommand}
 use Rattle.lego_grammar.specs.Written.{Order}
 use Rattle.lego_grammar.specs.declared.fault.ParseFault.{ParseFault}
 use Rattle.lego_grammar.specs.declared.fault.ParseFault.TheVariants as Fault
-use Rattle.lego_session.specs.Commands.{grammar_tokens, HasTokens, IsCommand, IsUnread, IsUnreadBy, lex_place, lex_cause}
+use Rattle.lego_session.specs.Commands.{grammar_tokens, Grows, IsNameOf, HasTokens, IsCommand, IsUnread, IsUnreadBy, lex_place, lex_cause}
 use Rattle.lego_session.specs.Reading.{is_built}
 use Rattle.lego_session.specs.Unread.{HasItsToken, IsUnexpectedToken, IsNotParsed}
 use Rattle.lego_session.specs.declared.refusal.Cause.{Cause}
@@ -46,6 +53,51 @@ token_range place bytes tokens n t lexed h =
     within_of [] i x e = cc
     within_of (y ∷ ys) zero x e = omega arith
     within_of (y ∷ ys) (suc i) x e = let l = within_of ys i x e in omega (arith, l)
+
+same_lexemes : (bytes : List ℕ) (tokens : List Token)
+    → map (λ (t : Item). t.lexeme) (map (item_of bytes) tokens) ≡ map (λ (t : Placed). t.lexeme) (map (placed bytes) tokens)
+same_lexemes bytes [] = refl
+same_lexemes bytes (t ∷ ts) = ap (λ xs. lexeme_of bytes t.kind t.from t.to ∷ xs) (same_lexemes bytes ts)
+
+-- the numbering grows by names among the tokens, or not at all
+pub grown_by : {old new : Names} (place : Place) (bytes : List ℕ) (tokens : List Token)
+    → HasTokens (record { place = place; bytes = bytes }) (map (placed bytes) tokens) → GrowsBy (map (item_of bytes) tokens) old new
+    → Grows (record { place = place; bytes = bytes }) old new
+grown_by place bytes tokens lexed h = record {
+  more = h.more;
+  same = h.same;
+  from = All-weaker (λ text. Contains (map (λ (t : Item). t.lexeme) (map (item_of bytes) tokens)) (Name text)) (IsNameOf (record { place = place; bytes = bytes }))
+      (λ text held. (map (placed bytes) tokens, lexed, subst (λ ls. Contains ls (Name text)) (same_lexemes bytes tokens) held)) h.more h.from;
+}
+
+pub not_grown : (c : CommandText) (names : Names) → Grows c names names
+not_grown c names = record { more = []; same = sym (append-nil names); from = All-nil (IsNameOf c) }
+
+-- the last token of a command is its `;`
+is_semicolon : (bytes : List ℕ) (kind : TokenKind) (from to : ℕ) → lexeme_of bytes kind from to ≡ OfSymbol Semicolon → kind ≡ Kind.Symbol Semicolon
+is_semicolon bytes Kind.Name from to e = absurd (cc)
+is_semicolon bytes (Kind.Number n) from to e = absurd (cc)
+is_semicolon bytes (Kind.Word w) from to e = absurd (cc)
+is_semicolon bytes (Kind.Symbol s) from to e = cc
+
+one_before : (t : Token) (ts : List Token) → EndWithSemicolon ts → EndWithSemicolon (t ∷ ts)
+one_before t ts h = (t ∷ h.0, h.1, ap (λ (xs : List Token). t ∷ xs) h.2, h.3)
+
+last_is : (bytes : List ℕ) (tokens : List Token) (front : List Placed) (last : Placed) → map (placed bytes) tokens ≡ front ++ last ∷ []
+    → last.lexeme ≡ OfSymbol Semicolon → EndWithSemicolon tokens
+last_is bytes [] [] last e s = absurd (cc)
+last_is bytes [] (x ∷ front) last e s = absurd (cc)
+last_is bytes (t ∷ []) [] last e s =
+    let same : placed bytes t ≡ last = cc in
+    ([], t, refl, is_semicolon bytes t.kind t.from t.to (ap (λ (x : Placed). x.lexeme) same ∙ s))
+last_is bytes (t ∷ u ∷ ts) [] last e s = absurd (cc)
+last_is bytes (t ∷ ts) (x ∷ front) last e s = one_before t ts (last_is bytes ts front last (cc) s)
+
+pub ends_so : (place : Place) (bytes : List ℕ) (tokens : List Token) → IsCommandText bytes → Tokens place bytes (map (placed bytes) tokens)
+    → EndWithSemicolon tokens
+ends_so place bytes tokens text lexed =
+    let h = command_ends text lexed in
+    last_is bytes tokens h.front h.last h.is h.semicolon
 
 -- a token stands where the parser says
 pub its_token : (held : Names) (bytes : List ℕ) (tokens : List Token) (fault : ParseFault) → IsNoCommand held (map (item_of bytes) tokens) fault → HasItsToken tokens fault

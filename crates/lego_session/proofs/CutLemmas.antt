@@ -7,7 +7,7 @@ use Rattle.lego_base.specs.Place.{past, behind}
 use Rattle.lego_base.specs.declared.place.Place.{Place}
 use Rattle.lego_base.proofs.PlaceLemmas.{behind-append}
 use Rattle.lego_lexer.specs.Bytes.{Gap, BeginsToken}
-use Rattle.lego_lexer.specs.Commands.{CommandText, Cuts, Ending, Whole, Unended, OpenComment, IsCut, Unbroken}
+use Rattle.lego_lexer.specs.Commands.{CommandText, IsCommandText, Cuts, Ending, Whole, Unended, OpenComment, IsCut, Unbroken}
 use Rattle.lego_lexer.specs.declared.token.Cut as Code
 use Rattle.lego_lexer.specs.declared.token.Cut.TheVariants as Cut
 use Rattle.lego_session.specs.Progress.{IsNear, IsCommandAt}
@@ -128,6 +128,11 @@ module _ (bytes : List ℕ) (at start end : ℕ) (inside : at ≤ length bytes) 
       ap (λ n. take n (drop at bytes)) count ∙ (ap (take (length t.gap + (length t.body + 1))) t.parts
       ∙ (take-append-add t.gap (t.body ++ 59 ∷ t.rest) (length t.body + 1) ∙ ap (λ (ys : List ℕ). t.gap ++ ys) (take-append-add t.body (59 ∷ t.rest) 1)))
 
+  text_is : IsCommandText (slice_range bytes start end)
+  text_is =
+      let begins : BeginsToken (t.body ++ 59 ∷ []) = begins_so t.body t.rest [] t.begins in
+      record { body = t.body; is = text_there; unbroken = t.unbroken; begins = subst BeginsToken (sym text_there) begins }
+
   module _ (place here : Place) (near : IsNear place at) (is : here ≡ behind place (slice_range bytes at start)) where
     pub near_start : IsNear here start
     near_start =
@@ -154,6 +159,7 @@ module _ (bytes : List ℕ) (at start end : ℕ) (inside : at ≤ length bytes) 
           some = bounds.some;
           within = bounds.within;
           near = near_start;
+          text = text_is;
           cuts = λ rest others ending. rw (there, text_there, all_there) (more_cuts rest others ending);
         }
 

@@ -1,5 +1,5 @@
 -- The names of entries are held: a numbering that grows keeps them, and bindings add names that were read.
-use Rattle.std.proofs.Common.{◌≡◌, ℕ, List, [], ◌∷◌, ◌++◌, map, Some, refl, sym, ap, ◌∙◌, subst}
+use Rattle.std.proofs.Common.{◌≡◌, ℕ, List, [], ◌∷◌, ◌++◌, map, Some, Result, Ok, Err, IfOk, OnErr, refl, sym, ap, ◌∙◌, subst}
 use Rattle.std.specs.Prelude.{slice_get}
 use Rattle.std.specs.List.{AllByRecursion}
 use Rattle.std.proofs.lemmas.List.Elements.{All-weaker, All-push}
@@ -12,22 +12,22 @@ use Rattle.lego_grammar.specs.Grammar.{Names, Nested, Item as Token, item, Parse
 use Rattle.lego_grammar.specs.Written.{Bound, Deed, NameAt, Order}
 use Rattle.lego_kernel.specs.Entries.{assumption}
 use Rattle.lego_kernel.specs.declared.entry.Entry.{Entry as Item}
-use Rattle.lego_session.specs.Commands.{grammar_tokens, Answers}
-use Rattle.lego_session.specs.Names.{IsHeldName, Grows, AreKnown}
-use Rattle.lego_session.specs.Steps.{assume_all, BindsAll, Step, Answer}
+use Rattle.lego_session.specs.Commands.{grammar_tokens, Grows, Answers}
+use Rattle.lego_session.specs.Names.{IsHeldName, AreHeld, AreKnown}
+use Rattle.lego_session.specs.Steps.{assume_all, BindsAll, AreBoundHeld, bounds_of, Step, Answer}
 use Rattle.lego_session.proofs.DenotesNames.{front_at}
 use Rattle.lego_session.proofs.TokenLemmas.{IsTrueName, AreTrueNames, tokens_are_names}
 
-held_more : {old new : Names} (n : ℕ) → Grows old new → IsHeldName old n → IsHeldName new n
-held_more {old} {new} n g h = record {
+held_more : {c : CommandText} {old new : Names} (n : ℕ) → Grows c old new → IsHeldName old n → IsHeldName new n
+held_more {old = old} n g h = record {
   text = h.text;
-  held = ap (λ (names : Names). slice_get names n) g.1 ∙ front_at old g.0 n h.text h.held;
+  held = ap (λ (names : Names). slice_get names n) g.same ∙ front_at old g.more n h.text h.held;
   is_name = h.is_name;
 }
 
 -- names stay known as the numbering grows
-pub known_more : {old new : Names} (es : List Item) → Grows old new → AreKnown old es → AreKnown new es
-known_more {old} {new} es g known =
+pub known_more : {c : CommandText} {old new : Names} (es : List Item) → Grows c old new → AreKnown old es → AreKnown new es
+known_more {old = old} {new = new} es g known =
     All-weaker (λ e. (n : ℕ) × (e.name ≡ Some n) × IsHeldName old n) (λ e. (n : ℕ) × (e.name ≡ Some n) × IsHeldName new n)
     (λ e h. (h.0, h.1, held_more h.0 g h.2)) es known
 
@@ -52,12 +52,6 @@ names_back : (ts us : List Nested) → HaveTrueNames (ts ++ us) → HaveTrueName
 names_back [] us all = all
 names_back (t ∷ ts) us all = names_back ts us all.1
 
-abbrev AreHeld : Names → List ℕ → Type 0
-AreHeld names ns = AllByRecursion (IsHeldName names) ns
-
-abbrev AreBoundHeld : Names → List Bound → Type 0
-AreBoundHeld names bs = AllByRecursion (λ b. AreHeld names b.names) bs
-
 list_held : {names : Names} {d : ℕ} {ts : List Nested} {xs : List NameAt} → NameList names d ts xs → HaveTrueNames ts → AreHeld names (map (λ x. x.name) xs)
 list_held (NameList.one {text = text} h) all = (record { text = text; held = h; is_name = all.0 }, tt)
 list_held (NameList.more {text = text} h rest) all = (record { text = text; held = h; is_name = all.0 }, list_held rest all.1.1)
@@ -72,11 +66,7 @@ bindings_held (ReadsBindings.one h) all = (binding_held h all, tt)
 bindings_held (ReadsBindings.more {ts = ts} {us = us} h rest) all = (binding_held h (names_front ts us all), bindings_held rest (names_back ts us all))
 
 -- the names that a command binds
-abbrev DeedHeld : Names → Deed → Type 0
-DeedHeld names (Deed.Bindings bs) = AreBoundHeld names bs
-DeedHeld names _ = Unit {0}
-
-act_held : {names : Names} {ts : List Nested} {deed : Deed} → ReadsAct names ts deed → HaveTrueNames ts → DeedHeld names deed
+act_held : {names : Names} {ts : List Nested} {deed : Deed} → ReadsAct names ts deed → HaveTrueNames ts → AreBoundHeld names (bounds_of deed)
 act_held (ReadsAct.bindings h) all = bindings_held h all
 act_held (ReadsAct.show h) all = tt
 act_held (ReadsAct.with_term TermWord.refine h) all = tt
@@ -100,14 +90,13 @@ act_held (ReadsAct.alone LoneWord.ctxt) all = tt
 act_held (ReadsAct.alone LoneWord.explicit) all = tt
 act_held (ReadsAct.alone LoneWord.implicit) all = tt
 
-command_held : {names : Names} {ts : List Nested} {o : Order} → ReadsCommand names ts o → HaveTrueNames ts → DeedHeld names o.deed
+command_held : {names : Names} {ts : List Nested} {o : Order} → ReadsCommand names ts o → HaveTrueNames ts → AreBoundHeld names (bounds_of o.deed)
 command_held (ReadsCommand.command {t = t} {ts = ts} p act) all = act_held act (names_front (t ∷ ts) _ all)
 
--- each name that a context command binds is held
-pub binding_names_held : {names : Names} {place : Place} {bytes : List ℕ} {tokens : List Placed} {o : Order} (bs : List Bound)
-    → Parses names (grammar_tokens tokens) o → Tokens place bytes tokens → o.deed ≡ Deed.Bindings bs → AreBoundHeld names bs
-binding_names_held {names} {tokens = tokens} bs parses lexed is =
-    subst (DeedHeld names) is (command_held parses.reads (nested_names parses.nested tokens parses.same (tokens_are_names lexed)))
+-- each name that a command binds is held
+names_held : {names : Names} {place : Place} {bytes : List ℕ} {tokens : List Placed} {o : Order}
+    → Parses names (grammar_tokens tokens) o → Tokens place bytes tokens → AreBoundHeld names (bounds_of o.deed)
+names_held {tokens = tokens} parses lexed = command_held parses.reads (nested_names parses.nested tokens parses.same (tokens_are_names lexed))
 
 assumed_known : (names : Names) (es : List Item) (ns : List ℕ) (ty : Core) → AreHeld names ns → AreKnown names es → AreKnown names (assume_all es Plain ns ty)
 assumed_known names es [] ty held known = known
@@ -120,18 +109,20 @@ binds_known names BindsAll.none held known = known
 binds_known names (BindsAll.more {es = es} {b = b} h rest) held known =
     binds_known names rest held.1 (subst (AreKnown names) (sym h.makes) (assumed_known names es b.names h.ty held.0 known))
 
--- the names of the entries stay held where a context command makes more
-pub bound_known : {names : Names} {place : Place} {bytes : List ℕ} {tokens : List Placed} {o : Order} {bs : List Bound} {old new : List Item}
-    → Parses names (grammar_tokens tokens) o → Tokens place bytes tokens → o.deed ≡ Deed.Bindings bs → AreKnown names old → BindsAll old bs new → AreKnown names new
-bound_known {names} {bs = bs} parses lexed is known binds = binds_known names binds (binding_names_held bs parses lexed is) known
+-- a session's step keeps the names of the entries held, where those of the command are
+step_keeps : {names : Names} {old new : List Item} {o : Order} {a : Answer} → Step names old o a new
+    → AreKnown names old → AreBoundHeld names (bounds_of o.deed) → AreKnown names new
+step_keeps {names} (Step.accepted is h) known held = binds_known names h (subst (λ d. AreBoundHeld names (bounds_of d)) is held) known
+step_keeps (Step.refused is h) known held = known
 
-step_known : {names : Names} {place : Place} {bytes : List ℕ} {tokens : List Placed} {old new : List Item} {o : Order} {a : Answer}
-    → Step names old o a new → Parses names (grammar_tokens tokens) o → Tokens place bytes tokens → AreKnown names old → AreKnown names new
-step_known (Step.accepted is h) parses lexed known = bound_known parses lexed is known h
-step_known (Step.refused is h) parses lexed known = known
+pub outcome_known : {X E : Type 0} (names : Names) (old new : List Item) (o : Order) (outcome : Result X E) (answer : X → Answer)
+    → IfOk outcome (λ a. Step names old o (answer a) new) → OnErr outcome (new ≡ old)
+    → AreKnown names old → AreBoundHeld names (bounds_of o.deed) → AreKnown names new
+outcome_known names old new o (Ok a) answer ok err known held = step_keeps ok known held
+outcome_known names old new o (Err e) answer ok err known held = subst (AreKnown names) (sym err) known
 
 -- a command that is answered leaves entries whose names are held
 pub answered_known : {held names : Names} {old new : List Item} {c : CommandText} {a : Answer}
     → Answers held old c a names new → AreKnown held old → AreKnown names new
-answered_known {old = old} (Answers.step g command built h) known = step_known h command.parsed command.lexed.lexed (known_more old g known)
-answered_known {old = old} (Answers.unread g h) known = known_more old g known
+answered_known {old = old} (Answers.step g differ command built h) known = step_keeps h (known_more old g known) (names_held command.parsed command.lexed.lexed)
+answered_known {old = old} (Answers.unread g differ h) known = known_more old g known

@@ -131,5 +131,5 @@ step_printable (Step.refused is h) p = p
 -- a command that is answered leaves printable entries
 pub answered_printable : {held names : Names} {old new : List Item} {c : CommandText} {a : Answer}
     → Answers held old c a names new → IsPrintable old → IsPrintable new
-answered_printable (Answers.step g command built h) p = step_printable h p
-answered_printable (Answers.unread g h) p = p
+answered_printable (Answers.step g differ command built h) p = step_printable h p
+answered_printable (Answers.unread g differ h) p = p

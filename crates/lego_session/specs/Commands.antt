@@ -1,15 +1,15 @@
 -- How a command's bytes are read, and answered.
-use Rattle.std.specs.Prelude.{◌≡◌, ℕ, ◌<◌, ◌≤◌, true, false, List, map, length, slice_get, slice_range, Some, ◌⊎◌, All}
+use Rattle.std.specs.Prelude.{◌≡◌, ℕ, ◌<◌, ◌≤◌, true, false, List, map, length, slice_get, slice_range, Some, ◌++◌, ◌⊎◌, All, Contains}
+use Rattle.lego_base.specs.Names.{AreDistinct}
 use Rattle.lego_base.specs.declared.place.Place.{Place}
 use Rattle.lego_lexer.specs.Commands.{CommandText}
-use Rattle.lego_lexer.specs.Tokens.{Placed, Tokens, AllWithinLimits, Refused}
+use Rattle.lego_lexer.specs.Tokens.{Name, Placed, Tokens, AllWithinLimits, Refused}
 use Rattle.lego_lexer.specs.declared.token.LexFault.{LexFault}
 use Rattle.lego_lexer.specs.declared.token.LexFault.TheVariants as Lex
 use Rattle.lego_grammar.specs.Grammar.{Names, Item as Token, Parses, IsUnexpected, IsTooDeep}
 use Rattle.lego_grammar.specs.Parsing.{AreTooMany}
 use Rattle.lego_grammar.specs.Written.{Order}
 use Rattle.lego_kernel.specs.declared.entry.Entry.{Entry as Item}
-use Rattle.lego_session.specs.Names.{Grows}
 use Rattle.lego_session.specs.Reading.{is_built}
 use Rattle.lego_session.specs.Refusals.{refusal_text}
 use Rattle.lego_session.specs.Steps.{Answer, Step}
@@ -25,6 +25,16 @@ pub record HasTokens (c : CommandText) (tokens : List Placed) : Type 0 where
   pub short : length c.bytes ≤ 65536
   pub lexed : Tokens c.place c.bytes tokens
   pub within : AllWithinLimits tokens
+
+-- the text of a name among the tokens of a command
+abbrev pub IsNameOf : CommandText → List ℕ → Type 0
+IsNameOf c text = (tokens : List Placed) × HasTokens c tokens × Contains (map (λ t. t.lexeme) tokens) (Name text)
+
+-- the numbering goes on with names among the tokens of a command
+pub record Grows (c : CommandText) (old new : Names) : Type 0 where
+  pub more : Names
+  pub same : new ≡ old ++ more
+  pub from : All (IsNameOf c) more
 
 -- the command that the bytes are, within the limits
 pub record IsCommand (names : Names) (c : CommandText) (o : Order) : Type 0 where
@@ -70,11 +80,11 @@ pub data IsUnread (held : Names) (c : CommandText) : Place → Cause → Type 0 
 abbrev pub IsUnreadBy : Names → CommandText → Place → Cause → Type 0
 IsUnreadBy held c p cause = (cause ≡ Memory) ⊎ IsUnread held c p cause
 
--- The answer to one command's bytes, over a numbering that grows by the names among its tokens.
+-- The answer to one command's bytes. The numbering grows by names among its tokens, and each text has one number.
 pub data Answers (held : Names) (old : List Item) (c : CommandText) : Answer → Names → List Item → Type 0 where
   step : {names : Names} {o : Order} {answer : Answer} {new : List Item}
-      → Grows held names → IsCommand names c o → is_built o.deed ≡ true → Step names old o answer new
+      → Grows c held names → AreDistinct names → IsCommand names c o → is_built o.deed ≡ true → Step names old o answer new
       → Answers held old c answer names new
   unread : {names : Names} {p : Place} {cause : Cause}
-      → Grows held names → IsUnread held c p cause
+      → Grows c held names → AreDistinct names → IsUnread held c p cause
       → Answers held old c (record { refused = true; text = refusal_text names old p cause }) names old

@@ -1,5 +1,6 @@
 -- Names by their numbers.
-use Rattle.std.specs.Prelude.{◌≡◌, ℕ, List, [], ◌++◌, Some, slice_get, unwrap_or, All}
+use Rattle.std.specs.Prelude.{◌≡◌, ℕ, List, [], Some, slice_get, unwrap_or, All}
+use Rattle.std.specs.List.{AllByRecursion}
 use Rattle.lego_lexer.specs.Tokens.{Name, token_of}
 use Rattle.lego_grammar.specs.Grammar.{Names}
 use Rattle.lego_kernel.specs.declared.entry.Entry.{Entry as Item}
@@ -14,9 +15,9 @@ pub record IsHeldName (names : Names) (n : ℕ) : Type 0 where
   pub held : slice_get names n ≡ Some text
   pub is_name : token_of text ≡ Some (Name text)
 
--- a numbering that goes on with more names
-abbrev pub Grows : Names → Names → Type 0
-Grows old new = (more : Names) × (new ≡ old ++ more)
+-- each of these names is held
+abbrev pub AreHeld : Names → List ℕ → Type 0
+AreHeld names ns = AllByRecursion (IsHeldName names) ns
 
 -- each entry has a name, which is held
 abbrev pub AreKnown : Names → List Item → Type 0

@@ -5,7 +5,7 @@ use Rattle.lego_base.specs.Bytes.{AppendsFront}
 use Rattle.lego_base.specs.Causes.{Rose}
 use Rattle.lego_base.specs.Place.{behind}
 use Rattle.lego_base.specs.declared.place.Place.{Place}
-use Rattle.lego_lexer.specs.Commands.{CommandText, Cuts, Ending, Whole, Unended, OpenComment}
+use Rattle.lego_lexer.specs.Commands.{CommandText, IsCommandText, Cuts, Ending, Whole, Unended, OpenComment}
 use Rattle.lego_grammar.specs.Grammar.{Names}
 use Rattle.lego_kernel.specs.Contexts.{IsContext}
 use Rattle.lego_kernel.specs.declared.entry.Entry.{Entry as Item}
@@ -41,6 +41,7 @@ pub record IsCommandAt (bytes : List ℕ) (at : ℕ) (place here : Place) (start
   pub some : start < end
   pub within : end ≤ length bytes
   pub near : IsNear here start
+  pub text : IsCommandText (slice_range bytes start end)
   pub cuts : (rest : List ℕ) (others : List CommandText) (ending : Ending)
       → Cuts (behind here (slice_range bytes start end)) rest others ending
       → Cuts place (slice_range bytes at end ++ rest) (record { place = here; bytes = slice_range bytes start end } ∷ others) ending

@@ -12,6 +12,7 @@ use Rattle.lego_kernel.specs.Assuming.{IsTypeAlways, NoTypeIn}
 use Rattle.lego_kernel.specs.Entries.{laws_entries, position_of, assumption}
 use Rattle.lego_kernel.specs.declared.entry.Entry.{Entry as Item}
 use Rattle.lego_kernel.specs.declared.fault.Counted.TheVariants.{Entries}
+use Rattle.lego_session.specs.Names.{AreHeld}
 use Rattle.lego_session.specs.Reading.{ReadsType, FirstUnknown, FirstTooLarge}
 use Rattle.lego_session.specs.Refusals.{refusal_text}
 use Rattle.lego_session.specs.Texts.{entry_lines}
@@ -83,6 +84,10 @@ pub data AreRefused : List Item → List Bound → List Item → Place → Cause
 abbrev pub bounds_of : Deed → List Bound
 bounds_of (Bindings bs) = bs
 bounds_of _ = []
+
+-- the names of the bindings are held
+abbrev pub AreBoundHeld : Names → List Bound → Type 0
+AreBoundHeld names bs = AllByRecursion (λ b. AreHeld names b.names) bs
 
 -- what a command is answered: its text, and whether it is refused
 pub record Answer : Type 0 where

@@ -1,7 +1,8 @@
 //! The answer to the bytes of one command.
 ghost use Rattle.std.specs.Prelude.{◌≡◌, ◌≤◌, ◌+◌, true, length, IfSome, IfNone};
-ghost use Rattle.lego_session.specs.Commands.{Answers};
-ghost use Rattle.lego_session.specs.Names.{AreKnown, Grows};
+ghost use Rattle.lego_lexer.specs.Commands.{IsCommandText};
+ghost use Rattle.lego_session.specs.Commands.{Answers, Grows};
+ghost use Rattle.lego_session.specs.Names.{AreKnown};
 ghost use Rattle.lego_session.specs.Reading.{is_built};
 ghost use Rattle.lego_session.specs.Steps.{Step, HasPlaces, bounds_of};
 ghost use Rattle.lego_session.specs.Unread.{IsWritten};
@@ -38,12 +39,16 @@ pub(crate) fn answer(
     requires line { place.line + length bytes.now ≤ 33554433 }
     requires column { place.column + length bytes.now ≤ 33554433 }
     requires some { length bytes.now ≤ 16777216 }
+    requires text { IsCommandText bytes.now }
     ensures answered { IfSome result (λ a. Answers names.old session.old (record { place = place; bytes = bytes.now }) (record { refused = a.refused; text = a.text }) names.new session.new) }
-    ensures grown { Grows names.old names.new }
+    ensures grown { Grows (record { place = place; bytes = bytes.now }) names.old names.new }
     ensures still_known { AreKnown names.new session.new }
     ensures none { IfNone result (session.new ≡ session.old) }
 {
-    match read_command(alloc, names, place, bytes) {
+    let outcome = read_command(alloc, names, place, bytes);
+    // So each text has one number.
+    let _count = names.len();
+    match outcome {
         Ok(command) => run_command(names, session, command),
         Err(unread) => written(Err(session.refusal(names, unread.place, unread.cause))),
     }

@@ -5,7 +5,7 @@ ghost use Rattle.lego_kernel.specs.Contexts.{IsContext};
 ghost use Rattle.lego_session.specs.Names.{AreKnown};
 ghost use Rattle.lego_session.specs.Reading.{is_built};
 ghost use Rattle.lego_session.specs.Refusals.{IsRefusedBy};
-ghost use Rattle.lego_session.specs.Steps.{HasPlaces, bounds_of, Step, IsRefusal};
+ghost use Rattle.lego_session.specs.Steps.{HasPlaces, AreBoundHeld, bounds_of, Step, IsRefusal};
 ghost use Rattle.lego_session.specs.Texts.{entry_lines, development_text};
 ghost use Rattle.lego_session.specs.declared.refusal.Cause.TheVariants.{Memory};
 
@@ -71,6 +71,7 @@ impl Session {
         ensures counts { IfOk result (λ answer. answer.step ≡ true) }
         ensures cause { IfErr result (λ refusal. IsRefusal names.now self.old (order_of command.now) refusal.place refusal.cause refusal.text) }
         ensures err { OnErr result (self.new ≡ self.old) }
+        ensures known { AreKnown names.now self.old → AreBoundHeld names.now (bounds_of (order_of command.now).deed) → AreKnown names.now self.new }
     {
         let Act::Bind { bindings } = &command.act else {
             unreachable!()

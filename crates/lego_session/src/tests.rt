@@ -1,7 +1,14 @@
-ghost use Rattle.std.specs.Prelude.{◌<◌};
+//! Whole runs: the worked scripts, each refusal by its cause, the limits, and the two ends of a
+//! run that fail. Each public call once.
+ghost use Rattle.std.specs.Prelude.{◌≡◌, ◌<◌, true, IfOk};
+ghost use Rattle.lego_grammar.specs.Surface.{order_of, written};
+ghost use Rattle.lego_session.specs.Reading.{is_built, is_simple};
+ghost use Rattle.lego_session.specs.Steps.{HasPlaces, bounds_of};
 
 use super::*;
-use lego_base::{MemSink, MemSource, Names};
+use lego_base::{MemSink, MemSource, Names, Place};
+use lego_grammar::{Act, Binding, BindingKind, Command, Surface};
+use lego_term::{List, Mark};
 use std::alloc::{AllocError, Global};
 use std::test::*;
 
@@ -22,7 +29,7 @@ fn ran(alloc: Global, script: &[u8], piece: usize) -> Result<(Vec<u8>, Status), 
 fn scripts_have_their_output_and_status_in_whatever_pieces_they_come(
     rt: HostRuntime,
 ) -> Result<(), Fail> {
-    let cases: [(&[u8], &[u8], Status); 17] = [
+    let cases: [(&[u8], &[u8], Status); 18] = [
         (b"", b"Explicit;\n", Status::Accepted),
         (
             b"[A:Prop][a:A];",
@@ -40,23 +47,8 @@ fn scripts_have_their_output_and_status_in_whatever_pieces_they_come(
             Status::Refused,
         ),
         (
-            b"[A@",
-            b"refused 1:1 7 Unended\nExplicit;\n",
-            Status::Refused,
-        ),
-        (
-            b"[x:Type(1000001)];",
-            b"refused 1:9 4 BigLevel\nExplicit;\n",
-            Status::Refused,
-        ),
-        (
             b"[A@Prop];[B:Prop];",
             b"refused 1:3 1 BadByte @\nB : Prop\nExplicit;\n[B:Prop];\n",
-            Status::Refused,
-        ),
-        (
-            b"[A:Prop)];",
-            b"refused 1:8 5 Unexpected )\nExplicit;\n",
             Status::Refused,
         ),
         (
@@ -74,30 +66,26 @@ fn scripts_have_their_output_and_status_in_whatever_pieces_they_come(
             b"A : Prop\na : A\nrefused 2:2 12 NameInUse a\nExplicit;\n[A:Prop];\n[a:A];\n",
             Status::Refused,
         ),
-        // A command of several bindings is admitted whole or not at all.
+        (
+            b"(* a (* b *) c *)[A,B:Prop][f:(A->B)->A];",
+            b"A : Prop\nB : Prop\nf : (A->B)->A\nExplicit;\n[A:Prop];\n[B:Prop];\n[f:(A->B)->A];\n",
+            Status::Accepted,
+        ),
+        // The names of a refused command are free again, and are not in scope.
         (
             b"[A:Prop][B:C];[A:Prop];",
             b"refused 1:12 10 UnknownName C\nA : Prop\nExplicit;\n[A:Prop];\n",
             Status::Refused,
         ),
         (
-            b"(* a (* b *) c *)[A,B:Prop][f:(A->B)->A];",
-            b"A : Prop\nB : Prop\nf : (A->B)->A\nExplicit;\n[A:Prop];\n[B:Prop];\n[f:(A->B)->A];\n",
-            Status::Accepted,
-        ),
-        (
-            b"[x=Prop];",
-            b"refused 1:1 5 Unexpected [\nExplicit;\n",
+            b"[A:Prop][B:C];[x:A];",
+            b"refused 1:12 10 UnknownName C\nrefused 1:18 10 UnknownName A\nExplicit;\n",
             Status::Refused,
         ),
+        // The run goes on behind each refused command.
         (
-            b"[A:Prop][f:A->Prop->A][g:f];",
-            b"refused 1:23 13 NotAType f : A->Prop->A\nExplicit;\n",
-            Status::Refused,
-        ),
-        (
-            b";",
-            b"refused 1:1 5 Unexpected ;\nExplicit;\n",
+            b"[A:Prop];[B:A][A:B];[b:B];[B:A];",
+            b"A : Prop\nrefused 1:16 12 NameInUse A\nrefused 1:24 10 UnknownName B\nB : A\nExplicit;\n[A:Prop];\n[B:A];\n",
             Status::Refused,
         ),
         // A comment hides a `;`, and blanks may follow the last command.
@@ -106,6 +94,28 @@ fn scripts_have_their_output_and_status_in_whatever_pieces_they_come(
             b"A : Prop\nExplicit;\n[A:Prop];\n",
             Status::Accepted,
         ),
+        (
+            b"[A:Prop](*;(*;*);*);",
+            b"A : Prop\nExplicit;\n[A:Prop];\n",
+            Status::Accepted,
+        ),
+        (b"(*[A:Prop];*)", b"Explicit;\n", Status::Accepted),
+        (
+            b"[A:Prop](*;",
+            b"refused 1:9 2 OpenComment\nExplicit;\n",
+            Status::Refused,
+        ),
+        // Lines are counted through blanks and comments.
+        (
+            b"[A:Prop\n]\n;(*\n*) [B:Q];",
+            b"A : Prop\nrefused 4:7 10 UnknownName Q\nExplicit;\n[A:Prop];\n",
+            Status::Refused,
+        ),
+        (
+            b"[A:Prop];;",
+            b"A : Prop\nrefused 1:10 5 Unexpected ;\nExplicit;\n[A:Prop];\n",
+            Status::Refused,
+        ),
     ];
     for (script, output, status) in &cases {
         for piece in [1, 9, 4096] {
@@ -113,6 +123,88 @@ fn scripts_have_their_output_and_status_in_whatever_pieces_they_come(
             assert_eq!(rt; got.0.as_slice(), *output, "in pieces of {piece}");
             assert_eq!(rt; got.1, *status, "in pieces of {piece}");
         }
+    }
+    Ok(())
+}
+
+/// Whether the script is refused so, and leaves no entry.
+fn is_refused(alloc: Global, script: &[u8], line: &[u8]) -> Result<bool, AllocError> {
+    let mut output = Vec::from_slice(alloc, line)?;
+    output.extend_from_slice(b"\nExplicit;\n")?;
+    let got = ran(alloc, script, 4096)?;
+    Ok(got.0 == output && got.1 == Status::Refused)
+}
+
+#[test]
+fn each_refusal_has_its_cause_and_its_place(rt: HostRuntime) -> Result<(), Fail> {
+    let cases: [(&[u8], &[u8]); 36] = [
+        // Bytes that begin no token, and numerals.
+        (b"[A-Prop];", b"refused 1:3 1 BadByte -"),
+        (b"[\x0BA:Prop];", b"refused 1:2 1 BadByte \\x0B"),
+        (b"[A\xC3:Prop];", b"refused 1:3 1 BadByte \\xC3"),
+        (b"[x:Type(1000001)];", b"refused 1:9 4 BigLevel"),
+        (b"Next 1000000;", b"refused 1:1 5 Unexpected Next"),
+        // The first token after which no reading exists.
+        (b";", b"refused 1:1 5 Unexpected ;"),
+        (b"[A:Prop)];", b"refused 1:8 5 Unexpected )"),
+        (b"[A:Prop]];", b"refused 1:9 5 Unexpected ]"),
+        (b"[A:Prop;", b"refused 1:8 5 Unexpected ;"),
+        (b"[A,:Prop];", b"refused 1:4 5 Unexpected :"),
+        (b"[Prop:Prop];", b"refused 1:2 5 Unexpected Prop"),
+        (b"[A:Prop->];", b"refused 1:10 5 Unexpected ]"),
+        (b"Module M;", b"refused 1:1 5 Unexpected Module"),
+        // Forms that are not built, at their first token.
+        (b"[x=Prop];", b"refused 1:1 5 Unexpected ["),
+        (b"[A:Prop][B=A];", b"refused 1:1 5 Unexpected ["),
+        (b"[A|Prop];", b"refused 1:1 5 Unexpected ["),
+        (b"[A:Type];", b"refused 1:1 5 Unexpected ["),
+        (b"[A:Prop][x:A A];", b"refused 1:1 5 Unexpected ["),
+        (b"[A:{x:Prop}x];", b"refused 1:1 5 Unexpected ["),
+        (b"(*x*)Prop;", b"refused 1:6 5 Unexpected Prop"),
+        (b"Goal Prop;", b"refused 1:1 5 Unexpected Goal"),
+        (b"Explicit;", b"refused 1:1 5 Unexpected Explicit"),
+        // Names that no entry has: a type can't name what its own binding assumes.
+        (b"[A:A];", b"refused 1:4 10 UnknownName A"),
+        (b"[A,B:A];", b"refused 1:6 10 UnknownName A"),
+        (b"[A:Prop][f:A->(B->C)];", b"refused 1:16 10 UnknownName B"),
+        // Names in use: those of the bindings before, and of the same list.
+        (b"[A,A:Prop];", b"refused 1:4 12 NameInUse A"),
+        (b"[A:Prop][B,A:Prop];", b"refused 1:12 12 NameInUse A"),
+        // Types that are none, at the `[` of their binding, with the names that it would see.
+        (b"[A:Prop][a,b:A][x:b];", b"refused 1:16 13 NotAType b : A"),
+        (
+            b"[A:Prop][a:A][f:A->a->A];",
+            b"refused 1:14 13 NotAType a : A",
+        ),
+        (
+            b"[A:Prop][f:A->Prop->A][g:f];",
+            b"refused 1:23 13 NotAType f : A->Prop->A",
+        ),
+        // Of two causes the lexer's goes first, then the grammar's, then those of the bindings,
+        // one after the other: names in use, unknown names, types.
+        (b"[A)@Prop];", b"refused 1:4 1 BadByte @"),
+        (b"[A:Q)];", b"refused 1:5 5 Unexpected )"),
+        (b"[x=Prop)];", b"refused 1:8 5 Unexpected )"),
+        (b"[A:Q][x=A];", b"refused 1:1 5 Unexpected ["),
+        (b"[A:Prop][A:Q];", b"refused 1:10 12 NameInUse A"),
+        (b"[A:Q][A:Prop];", b"refused 1:4 10 UnknownName Q"),
+    ];
+    for number in 0..cases.len() {
+        let (script, line) = cases[number];
+        assert!(rt; is_refused(rt.alloc(), script, line)?, "script {number}");
+    }
+    Ok(())
+}
+
+#[test]
+fn a_script_that_ends_within_a_command_is_unended(rt: HostRuntime) -> Result<(), Fail> {
+    let script = b"[A:Prop][a@A]";
+    for count in 1..=script.len() {
+        let line = b"refused 1:1 7 Unended";
+        assert!(rt;
+            is_refused(rt.alloc(), &script[..count], line)?,
+            "{count} bytes"
+        );
     }
     Ok(())
 }
@@ -224,6 +316,38 @@ fn a_token_has_at_most_500_levels_around_it(rt: HostRuntime) -> Result<(), Fail>
     Ok(())
 }
 
+/// `Prop`, behind so many times `Prop->`.
+fn arrows(alloc: Global, count: usize) -> Result<Vec<u8>, AllocError> {
+    let mut text = Vec::new(alloc);
+    for _ in 0..count {
+        text.extend_from_slice(b"Prop->")?;
+    }
+    text.extend_from_slice(b"Prop")?;
+    Ok(text)
+}
+
+#[test]
+fn a_type_has_at_most_499_arrows(rt: HostRuntime) -> Result<(), Fail> {
+    let alloc = rt.alloc();
+    let ty = arrows(alloc, 499)?;
+    let mut script = Vec::from_slice(alloc, b"[A:")?;
+    script.extend_from_slice(&ty)?;
+    script.extend_from_slice(b"];")?;
+    let mut output = Vec::from_slice(alloc, b"A : ")?;
+    output.extend_from_slice(&ty)?;
+    output.extend_from_slice(b"\nExplicit;\n")?;
+    output.extend_from_slice(&script)?;
+    output.extend_from_slice(b"\n")?;
+    let got = ran(alloc, &script, 4096)?;
+    assert_eq!(rt; got.1, Status::Accepted);
+    assert!(rt; got.0 == output);
+    let mut script = Vec::from_slice(alloc, b"[A:")?;
+    script.extend_from_slice(&arrows(alloc, 500)?)?;
+    script.extend_from_slice(b"];")?;
+    assert!(rt; is_refused(alloc, &script, b"refused 1:3004 6 TooDeep")?);
+    Ok(())
+}
+
 /// Adds a name that a number tells from others.
 fn push_name(alloc: Global, text: &mut Vec<u8>, number: usize) -> Result<(), AllocError> {
     let name = format!(in alloc; "a{number}")?;
@@ -259,12 +383,83 @@ fn a_context_has_at_most_65_536_entries(rt: HostRuntime) -> Result<(), Fail> {
 }
 
 #[test]
-fn a_session_begins_empty(rt: HostRuntime) -> Result<(), Fail> {
-    let session = Session::new(rt.alloc());
-    let names = Names::new(rt.alloc());
+fn at_most_1_048_576_names_are_held(rt: HostRuntime) -> Result<(), Fail> {
+    let alloc = rt.alloc();
+    let mut script = Vec::new(alloc);
+    let mut output = Vec::new(alloc);
+    // The names of a refused command keep their numbers.
+    for number in 0usize..1_048_576 {
+        let front: &[u8] = if number % 7000 == 0 { b"Intros " } else { b" " };
+        script.extend_from_slice(front)?;
+        push_name(alloc, &mut script, number)?;
+        if number % 7000 == 6999 || number == 1_048_575 {
+            script.extend_from_slice(b";\n")?;
+            let line = number / 7000 + 1;
+            let refusal = format!(in alloc; "refused {line}:1 5 Unexpected Intros\n")?;
+            output.extend_from_slice(refusal.as_bytes())?;
+        }
+    }
+    script.extend_from_slice(b"[z:Prop];[a0:Prop];")?;
+    output.extend_from_slice(b"refused 151:1 9 NamesFull\na0 : Prop\nExplicit;\n[a0:Prop];\n")?;
+    let got = ran(alloc, &script, 4096)?;
+    assert_eq!(rt; got.1, Status::Refused);
+    assert!(rt; got.0 == output);
+    Ok(())
+}
+
+/// `[name:ty];`, where the name stands at column 2.
+fn assumption(alloc: Global, name: u32, ty: Surface) -> Result<Command, AllocError>
+    requires { is_simple (written ty) ≡ true }
+    ensures built { IfOk result (λ command. is_built (order_of command).deed ≡ true) }
+    ensures places { IfOk result (λ command. HasPlaces (bounds_of (order_of command).deed)) }
+{
+    let place = Place { line: 1, column: 1 };
+    let mut places = Vec::new(alloc);
+    places.push(Place { line: 1, column: 2 })?;
+    let mut names = Vec::new(alloc);
+    names.push(name)?;
+    let mut bindings = Vec::new(alloc);
+    bindings.push(Binding {
+        places: List::of(places),
+        names: List::of(names),
+        kind: BindingKind::Assume {
+            mark: Mark::Plain,
+            ty,
+        },
+        place,
+    })?;
+    Ok(Command {
+        place,
+        act: Act::Bind {
+            bindings: List::of(bindings),
+        },
+    })
+}
+
+#[test]
+fn a_session_takes_a_command_once(rt: HostRuntime) -> Result<(), Fail> {
+    let alloc = rt.alloc();
+    let mut names = Names::new(alloc);
+    let Ok(name) = names.intern(b"A") else {
+        return Err(Fail::new("no number"));
+    };
+    let mut session = Session::new(alloc);
+    let empty = session.development(&names)?;
+    assert_eq!(rt; empty.as_slice(), b"Explicit;\n".as_slice());
+    let command = assumption(alloc, name, Surface::Prop)?;
+    let Ok(answer) = session.step(&names, &command, 100_000) else {
+        return Err(Fail::new("refused"));
+    };
+    assert!(rt; answer.step);
+    assert_eq!(rt; answer.text.items(), b"A : Prop\n".as_slice());
+    let Err(refusal) = session.step(&names, &command, 100_000) else {
+        return Err(Fail::new("taken twice"));
+    };
+    assert_eq!(rt; refusal.place, Place { line: 1, column: 2 });
+    assert!(rt; matches!(refusal.cause, Cause::NameInUse { name: 0 }));
     assert_eq!(rt;
-        session.development(&names)?.as_slice(),
-        b"Explicit;\n".as_slice()
+        refusal.text.items(),
+        b"refused 1:2 12 NameInUse A\n".as_slice()
     );
     Ok(())
 }

@@ -1,11 +1,11 @@
 //! The command that bytes are, or why they are none.
 ghost use Rattle.std.specs.Prelude.{◌≡◌, ◌≤◌, ◌+◌, true, length, map, IfOk, IfErr, IfSome, IfNone};
 ghost use Rattle.lego_grammar.specs.Surface.{order_of};
+ghost use Rattle.lego_lexer.specs.Commands.{IsCommandText};
 ghost use Rattle.lego_lexer.specs.Tokens.{placed};
 ghost use Rattle.lego_lexer.specs.declared.token.Token.{Token as PlacedToken};
-ghost use Rattle.lego_session.specs.Commands.{HasTokens, IsCommand, IsUnreadBy, lex_place, lex_cause};
+ghost use Rattle.lego_session.specs.Commands.{Grows, HasTokens, IsCommand, IsUnreadBy, lex_place, lex_cause};
 ghost use Rattle.lego_session.specs.Unread.{StandsAt, FirstStandElsewhere, HasItsToken, IsUnexpectedToken, IsNotParsed};
-ghost use Rattle.lego_session.specs.Names.{Grows};
 ghost use Rattle.lego_session.specs.Reading.{is_built};
 
 use crate::reading::is_built;
@@ -36,10 +36,11 @@ pub(crate) fn read_command(
     requires line { place.line + length bytes.now ≤ 33554433 }
     requires column { place.column + length bytes.now ≤ 33554433 }
     requires some { length bytes.now ≤ 16777216 }
+    requires text { IsCommandText bytes.now }
     ensures command { IfOk result (λ command. IsCommand names.new (record { place = place; bytes = bytes.now }) (order_of command)) }
     ensures built { IfOk result (λ command. is_built (order_of command).deed ≡ true) }
     ensures unread { IfErr result (λ unread. IsUnreadBy names.old (record { place = place; bytes = bytes.now }) unread.place unread.cause) }
-    ensures grown { Grows names.old names.new }
+    ensures grown { Grows (record { place = place; bytes = bytes.now }) names.old names.new }
 {
     if bytes.len() > MAX_COMMAND {
         return Err(Unread {
@@ -92,11 +93,12 @@ fn parse_command(
     bytes: &[u8],
     tokens: &[Token],
 ) -> Result<Command, Unread>
-    requires { HasTokens (record { place = place; bytes = bytes.now }) (map (placed bytes.now) tokens.now) }
+    requires lexed { HasTokens (record { place = place; bytes = bytes.now }) (map (placed bytes.now) tokens.now) }
+    requires text { IsCommandText bytes.now }
     ensures command { IfOk result (λ command. IsCommand names.new (record { place = place; bytes = bytes.now }) (order_of command)) }
     ensures built { IfOk result (λ command. is_built (order_of command).deed ≡ true) }
     ensures unread { IfErr result (λ unread. IsUnreadBy names.old (record { place = place; bytes = bytes.now }) unread.place unread.cause) }
-    ensures grown { Grows names.old names.new }
+    ensures grown { Grows (record { place = place; bytes = bytes.now }) names.old names.new }
 {
     let command = match parse(alloc, tokens, bytes, names) {
         Ok(command) => command,

@@ -1,6 +1,6 @@
 use Rattle.std.proofs.Common.{inr, arith}
 use Rattle.lego_session.specs.Commands.{IsUnread}
-use Rattle.lego_session.proofs.CommandLemmas.{not_lexed_unread}
+use Rattle.lego_session.proofs.CommandLemmas.{not_grown, not_lexed_unread}
 use Rattle.lego_session.proofs.unread.read_command.Goals as goal
 
 pub returns-then-bytes-gt-MAX_COMMAND-clause-unread : goal.returns-then-bytes-gt-MAX_COMMAND-clause-unread
@@ -10,3 +10,9 @@ pub returns-in-Err-clause-unread : goal.returns-in-Err-clause-unread
 returns-in-Err-clause-unread c =
     not_lexed_unread c.args.names.now c.args.place c.args.bytes.now c.in-Err.fault _ _ (let g = c.if-bytes-gt-MAX_COMMAND.false in omega (arith, g))
     c.in-Err.ensures.refused c.not_lexed.ensures.place c.not_lexed.ensures.cause
+
+pub returns-then-bytes-gt-MAX_COMMAND-clause-grown : goal.returns-then-bytes-gt-MAX_COMMAND-clause-grown
+returns-then-bytes-gt-MAX_COMMAND-clause-grown c = not_grown _ c.args.names.now
+
+pub returns-in-Err-clause-grown : goal.returns-in-Err-clause-grown
+returns-in-Err-clause-grown c = not_grown _ c.args.names.now
