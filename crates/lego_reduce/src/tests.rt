@@ -120,3 +120,41 @@ fn projections_take_their_part(rt: HostRuntime) -> Result<(), Fail> {
     assert!(rt; reaches(alloc, &fst(alloc, &redex(alloc)?)?, &fst(alloc, &inner)?, 1)?);
     Ok(())
 }
+
+/// The part at a head place of a term, or in the last form as an argument.
+fn at_place(alloc: Global, number: u32, part: &Term) -> Result<Term, TermFault> {
+    match number {
+        0 => Ok(part.share()?),
+        1 => apply(alloc, part, &prop(alloc)?),
+        2 => fst(alloc, part),
+        3 => snd(alloc, part),
+        4 => apply(alloc, &fst(alloc, part)?, &prop(alloc)?),
+        5 => snd(alloc, &apply(alloc, part, &prop(alloc)?)?),
+        _ => apply(alloc, &prop(alloc)?, part),
+    }
+}
+
+/// Whether the head form has the constant 0 in the place of 1, behind so many steps.
+fn unfolds(alloc: Global, number: u32, steps: u64) -> Result<bool, ReduceFault> {
+    let bodies = chain(alloc, 2)?;
+    let t = at_place(alloc, number, &konst(alloc, 1)?)?;
+    if t.loose() > 0 {
+        return Ok(false);
+    }
+    let end = head(alloc, &bodies, &t, 5)?;
+    let last = at_place(
+        alloc,
+        number,
+        &konst(alloc, if steps == 0 { 1 } else { 0 })?,
+    )?;
+    Ok(end.steps == steps && identical(&end.term, &last))
+}
+
+#[test]
+fn a_constant_unfolds_at_each_head_place(rt: HostRuntime) -> Result<(), Fail> {
+    for number in 0..6 {
+        assert!(rt; unfolds(rt.alloc(), number, 1)?, "place {number}");
+    }
+    assert!(rt; unfolds(rt.alloc(), 6, 0)?);
+    Ok(())
+}
