@@ -1,9 +1,1 @@
-pub mod CountLemmas
-pub mod CycleLemmas
-pub mod GraphLemmas
-pub mod MeaningLemmas
 pub mod MemberLemmas
-pub mod RiseLemmas
-pub mod SettleLemmas
-pub mod StepLemmas
-pub mod StoreLemmas
