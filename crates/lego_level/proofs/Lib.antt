@@ -1,1 +1,6 @@
 pub mod MemberLemmas
+pub mod SearchLemmas
+pub mod DraftLemmas
+pub mod PotentialLemmas
+pub mod IncidenceLemmas
+pub mod StepLemmas

@@ -2,7 +2,9 @@ pub mod Adjacency
 pub mod Faults
 pub mod Graphs
 pub mod Incidence
+pub mod Lowest
 pub mod Measures
+pub mod Outcomes
 pub mod Potentials
 pub mod Refusals
 pub mod Searches

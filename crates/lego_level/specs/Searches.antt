@@ -104,7 +104,7 @@ abbrev pub IsAt : Task → Option ℕ → Constraint → Type 0
 IsAt t node c = near_of t.direction c ≡ node
 
 abbrev pub IsImpliedAt : Task → Option ℕ → Constraint → Type 0
-IsImpliedAt t node c = (near_of t.direction c ≡ node) × ((u : ℕ) × (c ≡ implied u))
+IsImpliedAt t node c = (near_of t.direction c ≡ node) × ((u : ℕ) × (c ≡ implied u) × IsScanned t.direction t.count u)
 
 -- while the constraints of a node are looked at
 pub record Scans (t : Task) (v : Option ℕ → ℕ) (cs : List Constraint) (s : Search) (node : Option ℕ) (from : Reached) (todo : Constraint → Type 0) : Type 0 where
@@ -169,7 +169,7 @@ SameDone old new = (u : Option ℕ) → (reached_at new.draft u).done ≡ (reach
 
 -- the closing constraint, the causes from its near node on, and the added constraint lead round
 pub record Turns (t : Task) (v : Option ℕ → ℕ) (cs : List Constraint) (d : Option ℕ → Reached) (closing : Constraint) : Type 0 where
-  pub closing : IsEdge t cs closing
+  pub edge : IsEdge t cs closing
   pub far : far_of t.direction closing ≡ near_of t.direction t.added
   pub end : d (near_of t.direction t.added) ≡ unreached
   pub near : 0 < (d (near_of t.direction closing)).gain

@@ -1,5 +1,5 @@
 //! The nodes that a search has reached.
-ghost use Rattle.std.specs.Prelude.{◌≡◌, ℕ, Option, Some, None, OnOk};
+ghost use Rattle.std.specs.Prelude.{◌≡◌, ℕ, Option, Some, None, IfOk, OnOk};
 ghost use Rattle.lego_level.specs.Searches.{found_at, reached_at, IsTouched};
 
 use crate::constraint::Constraint;
@@ -62,25 +62,45 @@ impl Draft {
     pub fn get(&self, node: Option<u32>) -> Reached
         ensures { result ≡ reached_at self.now node }
     {
-        let found = match node {
-            None => self.zero,
-            Some(variable) => self.variables.get(&variable).copied(),
-        };
-        match found {
+        match self.found(node) {
             Some(reached) => reached,
             None => UNREACHED,
         }
     }
 
+    fn found(&self, node: Option<u32>) -> Option<Reached>
+        ensures { result ≡ found_at self.now node }
+    {
+        match node {
+            None => self.zero,
+            Some(variable) => self.variables.get(&variable).copied(),
+        }
+    }
+
+    /// Sets what is known of a node. The answer is what was known before.
+    fn set(
+        &mut self,
+        node: Option<u32>,
+        reached: Reached,
+    ) -> Result<Option<Reached>, AllocError>
+        ensures before { IfOk result (λ o. o ≡ found_at self.old node) }
+        ensures at { OnOk result (found_at self.new node ≡ Some reached) }
+        ensures other { OnOk result ((u : Option ℕ) → (u ≡ node → ⊥) → found_at self.new u ≡ found_at self.old u) }
+        ensures touched { OnOk result (self.new.touched ≡ self.old.touched) }
+    {
+        match node {
+            None => Ok(self.zero.replace(reached)),
+            Some(variable) => Ok(self.variables.insert(variable, reached)?),
+        }
+    }
+
+    /// Puts what is known of a node.
     pub fn put(&mut self, node: Option<u32>, reached: Reached) -> Result<(), AllocError>
         ensures at { OnOk result (found_at self.new node ≡ Some reached) }
         ensures other { OnOk result ((u : Option ℕ) → (u ≡ node → ⊥) → found_at self.new u ≡ found_at self.old u) }
         ensures touched { OnOk result (IsTouched self.old → IsTouched self.new) }
     {
-        let before = match node {
-            None => self.zero.replace(reached),
-            Some(variable) => self.variables.insert(variable, reached)?,
-        };
+        let before = self.set(node, reached)?;
         if before.is_none() {
             self.touched.push(node)?;
         }

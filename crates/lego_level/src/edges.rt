@@ -1,5 +1,5 @@
 //! A list of constraints, with those that leave each node and those that come to it at hand.
-ghost use Rattle.std.specs.Prelude.{◌≡◌, ◌<◌, ◌++◌, ℕ, List, [], ◌∷◌, length, get_or, IfSome, IfNone, OnOk, OnErr, Some, Option};
+ghost use Rattle.std.specs.Prelude.{◌≡◌, ◌<◌, ◌++◌, ℕ, List, [], ◌∷◌, ◌≤◌, length, get_or, IfOk, OnOk, OnErr, Option};
 ghost use Rattle.lego_level.specs.declared.constraint.Constraint.{Constraint};
 ghost use Rattle.lego_level.specs.Graphs.{HasVariablesBelow, IsVariableBelow};
 ghost use Rattle.lego_level.specs.Incidence.{incident};

@@ -1,5 +1,10 @@
 //! The least solution, from a potential: all that can rise with the zero node rises with it.
-use crate::constraint::Constraint;
+ghost use Rattle.std.specs.Prelude.{◌≡◌, IfOk};
+ghost use Rattle.lego_level.specs.Graphs.{HasVariablesBelow};
+ghost use Rattle.lego_level.specs.Lowest.{IsLowest};
+ghost use Rattle.lego_level.specs.Potentials.{value_at, IsFeasible, IsBelowTop};
+ghost use Rattle.lego_level.specs.Searches.{reached_at};
+
 use crate::direction::Direction;
 use crate::draft::{BLANK, Draft};
 use crate::edges::Edges;
@@ -13,7 +18,12 @@ pub fn lowest(
     edges: &Edges,
     potential: &Potential,
     count: u32,
-) -> Result<Draft, AllocError> {
+) -> Result<Draft, AllocError>
+    requires feasible { IsFeasible (value_at potential.now) edges.now }
+    requires top { IsBelowTop potential.now }
+    requires below { HasVariablesBelow count edges.now }
+    ensures { IfOk result (λ d. IsLowest edges.now count (reached_at d)) }
+{
     let spread = potential.top - potential.zero;
     let task = Task {
         direction: Direction::Up,

@@ -1,5 +1,9 @@
 //! Mends a potential by two searches that go in turn: up from the head of the added constraint,
 //! and down from its tail. The one that ends first is kept.
+ghost use Rattle.std.specs.Prelude.{◌≡◌, ◌+◌, ◌<◌, IfOk};
+ghost use Rattle.lego_level.specs.Outcomes.{IsOutcome};
+ghost use Rattle.lego_level.specs.Potentials.{value_at, low_of, high_of, IsFeasible};
+
 use crate::constraint::Constraint;
 use crate::direction::Direction;
 use crate::draft::Draft;
@@ -13,12 +17,16 @@ use std::alloc::{AllocError, Global};
 pub enum Outcome {
     /// The reached nodes are to be moved.
     Mended(Draft),
-    /// A search came back to the added constraint by this one.
-    Closed {
-        task: Task,
-        draft: Draft,
-        closing: Constraint,
-    },
+    /// A search came back to the added constraint.
+    Closed(Closing),
+}
+
+/// What a search reached, and the constraint by which it came back.
+#[derive(Drop)]
+pub struct Closing {
+    pub task: Task,
+    pub draft: Draft,
+    pub closing: Constraint,
 }
 
 /// Looks for what must move once a constraint is added that asks for more by the given number.
@@ -28,7 +36,13 @@ pub fn mend(
     potential: &Potential,
     added: Constraint,
     lack: u64,
-) -> Result<Outcome, AllocError> {
+) -> Result<Outcome, AllocError>
+    requires feasible { IsFeasible (value_at potential.now) edges.now }
+    requires lack { lack + high_of (value_at potential.now) added ≡ low_of (value_at potential.now) added }
+    requires more { 0 < lack }
+    requires apart { added.low.base ≡ added.high.base → ⊥ }
+    ensures { IfOk result (IsOutcome (value_at potential.now) edges.now added) }
+{
     let raise = Task {
         direction: Direction::Up,
         added,
@@ -50,11 +64,11 @@ pub fn mend(
                 Step::More => {}
                 Step::Ended => return Ok(Outcome::Mended(up.draft)),
                 Step::Stopped(closing) if closing.high.base == added.low.base => {
-                    return Ok(Outcome::Closed {
+                    return Ok(Outcome::Closed(Closing {
                         task: raise,
                         draft: up.draft,
                         closing,
-                    });
+                    }));
                 }
                 Step::Stopped(_) => both = false,
             }
@@ -63,11 +77,11 @@ pub fn mend(
                 Step::More => {}
                 Step::Ended => return Ok(Outcome::Mended(down.draft)),
                 Step::Stopped(closing) => {
-                    return Ok(Outcome::Closed {
+                    return Ok(Outcome::Closed(Closing {
                         task: lower,
                         draft: down.draft,
                         closing,
-                    });
+                    }));
                 }
             }
         }

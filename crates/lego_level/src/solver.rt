@@ -1,17 +1,17 @@
 //! Constraints with a potential that satisfies them, one at a time.
-ghost use Rattle.std.specs.Prelude.{◌≡◌, ◌≤◌, ◌<◌, ◌-◌, take, ◌++◌, ◌∷◌, [], ℕ, length, get_or, MatchOption, MatchResult, IfOk, IfErr, OnOk, OnErr, IsTrue, ◌↔◌};
-ghost use Rattle.lego_term.specs.Levels.{Assignment, SatisfiesAll};
-ghost use Rattle.lego_level.specs.Graphs.{pairs_of, CanBeSatisfied, CanBeSatisfiedWithin, Exceeds, Forces, IsLeast};
-ghost use Rattle.lego_level.specs.Bounds.{bounds_of, low_of, high_of};
-ghost use Rattle.lego_level.specs.Faults.{IsInsertFault, IsUnsatisfied};
-ghost use Rattle.lego_level.specs.declared.constraint.Constraint.{Constraint};
+ghost use Rattle.std.specs.Prelude.{◌≡◌, ◌+◌, ◌<◌, ◌≤◌, ◌-◌, take, ◌++◌, ◌∷◌, [], ℕ, Option, Some, None, length, get_or, MatchOption, IfOk, IfErr, OnOk, OnErr, Contains};
+ghost use Rattle.lego_level.specs.Graphs.{CanBeSatisfiedWithin, Forces, HasVariablesBelow, IsLeast};
+ghost use Rattle.lego_level.specs.Faults.{IsInsertFault};
+ghost use Rattle.lego_level.specs.Outcomes.{IsSettled};
+ghost use Rattle.lego_level.specs.Potentials.{value_at, HasRoom, IsBelowTop, IsFeasible};
+ghost use Rattle.lego_level.specs.Searches.{reached_at, moved_to, IsTouched};
 
 use crate::constraint::Constraint;
 use crate::cycle::walk;
 use crate::draft::Draft;
 use crate::edges::Edges;
 use crate::least::lowest;
-use crate::mend::{Outcome, mend};
+use crate::mend::{Closing, Outcome, mend};
 use crate::potential::{Potential, START};
 use lego_term::List;
 use std::alloc::{AllocError, Global};
@@ -101,11 +101,11 @@ impl Solver {
                 keep(&mut self.potential, &draft);
                 Ok(())
             }
-            Outcome::Closed {
+            Outcome::Closed(Closing {
                 task,
                 draft,
                 closing,
-            } => {
+            }) => {
                 let (edges, potential) = (&self.edges, &self.potential);
                 let cycle = walk(alloc, task, edges, potential, &draft, closing)?;
                 Err(InsertFault::Cycle(cycle))
@@ -115,49 +115,91 @@ impl Solver {
 
     /// The least values of the variables below the count, which is above each variable of a
     /// constraint.
-    pub fn least(&self, alloc: Global, count: u32) -> Result<Vec<u64>, AllocError> {
+    pub fn least(&self, alloc: Global, count: u32) -> Result<Vec<u64>, AllocError>
+        requires { HasVariablesBelow count self.now }
+        ensures least { IfOk result (λ values. IsLeast self.now values.items) }
+        ensures len { IfOk result (λ values. length values.items ≡ count) }
+    {
         let draft = lowest(alloc, &self.edges, &self.potential, count)?;
-        let base = draft.get(None).value;
-        let mut values = Vec::with_capacity(alloc, count as usize)?;
-        for variable in 0..count {
-            values.push(draft.get(Some(variable)).value - base)?;
-        }
-        Ok(values)
+        values_of(alloc, &draft, count)
     }
 
     /// Whether the values can be kept within the limit. If not, the answer is a least value over
     /// it, and the constraint that forces it.
-    pub fn settle(&mut self, alloc: Global) -> Result<Option<(Constraint, u64)>, AllocError> {
+    pub fn settle(&mut self, alloc: Global) -> Result<Option<(Constraint, u64)>, AllocError>
+        ensures same { self.new ≡ self.old }
+        ensures settled { IfOk result (λ r. MatchOption r (CanBeSatisfiedWithin self.old) (λ p. Forces self.old p.0 p.1)) }
+    {
+        let count = self.edges.count();
         if self.potential.top - self.potential.zero <= MAX_VALUE {
             return Ok(None);
         }
-        let count = self.edges.count();
         let draft = lowest(alloc, &self.edges, &self.potential, count)?;
-        let base = draft.get(None).value;
-        let mut settled = Potential::new(alloc);
-        for variable in 0..count {
-            let reached = draft.get(Some(variable));
-            let value = reached.value - base;
-            if value > MAX_VALUE {
-                return Ok(Some((reached.cause, value)));
+        match lay_out(alloc, &draft, count)? {
+            Settled::Within(potential) => {
+                self.potential = potential;
+                Ok(None)
             }
-            settled.reserve(Some(variable))?;
-            settled.write(Some(variable), START + value);
+            Settled::Over(constraint, needed) => Ok(Some((constraint, needed))),
         }
-        self.potential = settled;
-        Ok(None)
     }
 }
 
+/// The values of the variables below the count above that of the zero node.
+fn values_of(alloc: Global, draft: &Draft, count: u32) -> Result<Vec<u64>, AllocError>
+    requires { (u : ℕ) → u < count → (reached_at draft.now None).value ≤ (reached_at draft.now (Some u)).value }
+    ensures len { IfOk result (λ values. length values.items ≡ count) }
+    ensures values { IfOk result (λ values. (u : ℕ) → u < count → get_or values.items u 0 + (reached_at draft.now None).value ≡ (reached_at draft.now (Some u)).value) }
+{
+    let base = draft.get(None).value;
+    let mut values = Vec::with_capacity(alloc, count as usize)?;
+    for variable in 0..count {
+        values.push(draft.get(Some(variable)).value - base)?;
+    }
+    Ok(values)
+}
+
+/// Least values as a potential, or one of them that is over the limit and what forces it.
+#[derive(Drop)]
+pub enum Settled {
+    Within(Potential),
+    Over(Constraint, u64),
+}
+
+/// Lays least values out as a potential, in which the zero node has the value `START`.
+fn lay_out(alloc: Global, draft: &Draft, count: u32) -> Result<Settled, AllocError>
+    requires { (u : ℕ) → u < count → (reached_at draft.now None).value ≤ (reached_at draft.now (Some u)).value }
+    ensures { IfOk result (IsSettled count (reached_at draft.now)) }
+{
+    let base = draft.get(None).value;
+    let mut settled = Potential::new(alloc);
+    for variable in 0..count {
+        let reached = draft.get(Some(variable));
+        let value = reached.value - base;
+        if value > MAX_VALUE {
+            return Ok(Settled::Over(reached.cause, value));
+        }
+        settled.reserve(Some(variable))?;
+        settled.write(Some(variable), START + value);
+    }
+    Ok(Settled::Within(settled))
+}
+
 /// The cycle of a single constraint.
-fn alone(alloc: Global, constraint: Constraint) -> Result<List<Constraint>, AllocError> {
+fn alone(alloc: Global, constraint: Constraint) -> Result<List<Constraint>, AllocError>
+    ensures { IfOk result (λ cycle. cycle ≡ constraint ∷ []) }
+{
     let mut cycle = Vec::new(alloc);
     cycle.push(constraint)?;
     Ok(List::of(cycle))
 }
 
 /// Makes room for the nodes that were reached.
-fn reserve_all(potential: &mut Potential, draft: &Draft) -> Result<(), AllocError> {
+fn reserve_all(potential: &mut Potential, draft: &Draft) -> Result<(), AllocError>
+    ensures room { OnOk result ((u : Option ℕ) → Contains draft.now.touched.items u → HasRoom potential.new u) }
+    ensures same { value_at potential.new ≡ value_at potential.old }
+    ensures top { IsBelowTop potential.old → IsBelowTop potential.new }
+{
     for node in draft.touched.as_slice() {
         potential.reserve(*node)?;
     }
@@ -165,7 +207,12 @@ fn reserve_all(potential: &mut Potential, draft: &Draft) -> Result<(), AllocErro
 }
 
 /// Moves the nodes that were reached.
-fn keep(potential: &mut Potential, draft: &Draft) {
+fn keep(potential: &mut Potential, draft: &Draft)
+    requires room { (u : Option ℕ) → Contains draft.now.touched.items u → HasRoom potential.old u }
+    requires touched { IsTouched draft.now }
+    ensures moved { value_at potential.new ≡ moved_to (value_at potential.old) (reached_at draft.now) }
+    ensures top { IsBelowTop potential.old → IsBelowTop potential.new }
+{
     for node in draft.touched.as_slice() {
         let reached = draft.get(*node);
         if reached.gain > 0 {
