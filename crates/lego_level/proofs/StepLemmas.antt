@@ -61,10 +61,7 @@ module _ (t : Task) (v : Option ℕ → ℕ) (cs : List Constraint) where
 -- the constraints at a node, before they are looked at
 pub listed_first : (t : Task) (cs : List Constraint) (w : Option ℕ) (c : Constraint) → IsEdge t cs c → IsAt t w c → listed_at t cs w 0 c
 unfolding listed_at
-listed_first t cs w c edge at = ⊎_elim {C = listed_at t cs w 0 c} (λ k. inl (member_incident t.direction w cs c k at)) (λ z. inr (at, z.0, z.1, z.2)) edge
-
-pub blank_item : Constraint
-blank_item = record { low = record { base = None; plus = 0 }; high = record { base = None; plus = 0 }; place = None }
+listed_first t cs w c edge at = ⊎_elim {C = listed_at t cs w 0 c} (λ k. inl (member_incident t.direction w cs c k at)) (λ z. inr (at, z)) edge
 
 -- the item of a turn, and the rest
 pub item_rest : {X : Type 0} (R L : List X) (i : ℕ) (d : X) → R ≡ L → i < length R → (drop i L ≡ get_or R i d ∷ drop (i + 1) L) × Contains L (get_or R i d)
@@ -92,16 +89,16 @@ implied_from t i c = (near_of t.direction c ≡ None) × ((u : ℕ) × (c ≡ im
 
 pub implied_first : (t : Task) (cs : List Constraint) (c : Constraint) → IsEdge t cs c → IsImpliedAt t None c → implied_from t 0 c
 unfolding implied_from
-implied_first t cs c edge h = (h.0, h.1, h.2, h.3, omega arith)
+implied_first t cs c edge h = (h.0, (h.1.0, h.1.1, h.1.2, omega arith))
 
 pub implied_rest : (t : Task) (cs : List Constraint) (i : ℕ) (x : Constraint) → IsEdge t cs x → implied_from t i x → (x ≡ implied i) ⊎ implied_from t (i + 1) x
 unfolding implied_from
 implied_rest t cs i x edge h = ⊎_elim {C = (x ≡ implied i) ⊎ implied_from t (i + 1) x}
-    (λ e. inl (h.2 ∙ ap implied e)) (λ ne. let l = h.4 in inr (h.0, h.1, h.2, h.3, omega (arith, l, ne))) (cases_eq h.1 i)
+    (λ e. inl (h.1.1 ∙ ap implied e)) (λ ne. let l = h.1.3 in inr (h.0, (h.1.0, h.1.1, h.1.2, omega (arith, l, ne)))) (cases_eq h.1.0 i)
 
 pub implied_last : (t : Task) (cs : List Constraint) (i : ℕ) → t.direction ≡ Up → t.count ≤ i → (x : Constraint) → IsEdge t cs x → implied_from t i x → ⊥
 unfolding implied_from
-implied_last t cs i up past x edge h = let k : h.1 < t.count = subst (λ y. IsScanned y t.count h.1) up h.3 in let l = h.4 in absurd (omega (arith, k, l, past))
+implied_last t cs i up past x edge h = let k : h.1.0 < t.count = subst (λ y. IsScanned y t.count h.1.0) up h.1.2 in let l = h.1.3 in absurd (omega (arith, k, l, past))
 
 pub implied_item : (t : Task) (cs : List Constraint) (i : ℕ) → t.direction ≡ Up → i < t.count → IsEdge t cs (implied i) × (near_of t.direction (implied i) ≡ None)
 implied_item t cs i up below = (inr (i, refl, subst (λ y. IsScanned y t.count i) (sym up) below), ap (λ y. near_of y (implied i)) up)
@@ -115,14 +112,14 @@ lower_item t cs w u down is = (inr (u, refl, subst (λ y. IsScanned y t.count u)
 
 pub lower_rest : (t : Task) (cs : List Constraint) (w : Option ℕ) (u : ℕ) → t.direction ≡ Down → w ≡ Some u → (x : Constraint) → IsEdge t cs x → IsImpliedAt t w x → (x ≡ implied u) ⊎ ⊥
 lower_rest t cs w u down is x edge h =
-    let k : Some h.1 ≡ Some u = sym (ap (λ y. near_of y (implied h.1)) down) ∙ (ap (near_of t.direction) (sym h.2) ∙ (h.0 ∙ is)) in inl (h.2 ∙ ap implied (some_same h.1 u k))
+    let k : Some h.1.0 ≡ Some u = sym (ap (λ y. near_of y (implied h.1.0)) down) ∙ (ap (near_of t.direction) (sym h.1.1) ∙ (h.0 ∙ is)) in inl (h.1.1 ∙ ap implied (some_same h.1.0 u k))
 
 -- elsewhere there is none
 pub none_upper : (t : Task) (cs : List Constraint) (w : Option ℕ) (u : ℕ) → t.direction ≡ Up → w ≡ Some u → (x : Constraint) → IsEdge t cs x → IsImpliedAt t w x → ⊥
-none_upper t cs w u up is x edge h = let k : None ≡ Some u = sym (ap (λ y. near_of y (implied h.1)) up) ∙ (ap (near_of t.direction) (sym h.2) ∙ (h.0 ∙ is)) in absurd (cc)
+none_upper t cs w u up is x edge h = let k : None ≡ Some u = sym (ap (λ y. near_of y (implied h.1.0)) up) ∙ (ap (near_of t.direction) (sym h.1.1) ∙ (h.0 ∙ is)) in absurd (cc)
 
 pub none_lower : (t : Task) (cs : List Constraint) (w : Option ℕ) → t.direction ≡ Down → w ≡ None → (x : Constraint) → IsEdge t cs x → IsImpliedAt t w x → ⊥
-none_lower t cs w down is x edge h = let k : Some h.1 ≡ None = sym (ap (λ y. near_of y (implied h.1)) down) ∙ (ap (near_of t.direction) (sym h.2) ∙ (h.0 ∙ is)) in absurd (cc)
+none_lower t cs w down is x edge h = let k : Some h.1.0 ≡ None = sym (ap (λ y. near_of y (implied h.1.0)) down) ∙ (ap (near_of t.direction) (sym h.1.1) ∙ (h.0 ∙ is)) in absurd (cc)
 
 pub same_done : (a b c : Search) → SameDone a b → SameDone b c → SameDone a c
 same_done a b c x y u = y u ∙ x u
