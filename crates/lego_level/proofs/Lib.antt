@@ -4,3 +4,4 @@ pub mod DraftLemmas
 pub mod PotentialLemmas
 pub mod IncidenceLemmas
 pub mod StepLemmas
+pub mod CountLemmas
