@@ -5,3 +5,5 @@ pub mod PotentialLemmas
 pub mod IncidenceLemmas
 pub mod StepLemmas
 pub mod CountLemmas
+pub mod CycleLemmas
+pub mod MendLemmas

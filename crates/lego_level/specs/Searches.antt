@@ -174,6 +174,7 @@ pub record Turns (t : Task) (v : Option ℕ → ℕ) (cs : List Constraint) (d :
   pub end : d (near_of t.direction t.added) ≡ unreached
   pub near : 0 < (d (near_of t.direction closing)).gain
   pub over : high_of v closing < (d (near_of t.direction closing)).gain + low_of v closing
+  pub more : 0 < t.gain
   pub lack : t.gain + high_of v t.added ≡ low_of v t.added
   pub first : IsFirst t (d (far_of t.direction t.added))
   pub linked : (u : Option ℕ) → 0 < (d u).gain → (u ≡ far_of t.direction t.added) ⊎ IsLinked t v cs d u (d u)

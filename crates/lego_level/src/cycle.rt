@@ -53,7 +53,7 @@ fn walk_back(
     let mut chain = Vec::new(alloc);
     chain.push(closing)?;
     let mut at = closing.low.base;
-    while at != task.added.high.base {
+    'causes: while at != task.added.high.base {
         let cause = draft.get(at).cause;
         chain.push(cause)?;
         at = cause.low.base;
@@ -81,7 +81,7 @@ fn walk_on(
     chain.push(task.added)?;
     chain.push(closing)?;
     let mut at = closing.high.base;
-    while at != task.added.low.base {
+    'causes: while at != task.added.low.base {
         let cause = draft.get(at).cause;
         chain.push(cause)?;
         at = cause.high.base;

@@ -32,7 +32,7 @@ pub fn lowest(
         count,
     };
     let mut search = start(alloc, task, edges, potential)?;
-    loop {
+    'steps: loop {
         match advance(task, edges, potential, &mut search)? {
             Step::More => {}
             Step::Ended => return Ok(search.draft),

@@ -58,19 +58,21 @@ pub fn mend(
     let mut up = start(alloc, raise, edges, potential)?;
     let mut down = start(alloc, lower, edges, potential)?;
     let mut both = added.high.base.is_some();
-    loop {
+    'turns: loop {
         if both && up.work < down.work {
             match advance(raise, edges, potential, &mut up)? {
                 Step::More => {}
                 Step::Ended => return Ok(Outcome::Mended(up.draft)),
-                Step::Stopped(closing) if closing.high.base == added.low.base => {
-                    return Ok(Outcome::Closed(Closing {
-                        task: raise,
-                        draft: up.draft,
-                        closing,
-                    }));
+                Step::Stopped(closing) => {
+                    if closing.high.base == added.low.base {
+                        return Ok(Outcome::Closed(Closing {
+                            task: raise,
+                            draft: up.draft,
+                            closing,
+                        }));
+                    }
+                    both = false;
                 }
-                Step::Stopped(_) => both = false,
             }
         } else {
             match advance(lower, edges, potential, &mut down)? {
