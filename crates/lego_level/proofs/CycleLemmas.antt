@@ -226,3 +226,6 @@ bases_same None None h = refl
 bases_same None (Some y) h = absurd (cc)
 bases_same (Some x) None h = absurd (cc)
 bases_same (Some x) (Some y) h = ⊎_elim {C = Some x ≡ Some y} (λ k. ap Some k) (λ ne. absurd (let t : eqb x y ≡ false = grind (arith, nat_tests) in let z : false ≡ true = h ∙ ap not t in cc)) (cases_eq x y)
+
+pub bases_equal : (a b : Option ℕ) → true ≡ option_eq eqb a b → a ≡ b
+bases_equal a b h = bases_same a b (ap not h)

@@ -7,3 +7,4 @@ pub mod StepLemmas
 pub mod CountLemmas
 pub mod CycleLemmas
 pub mod MendLemmas
+pub mod LeastLemmas

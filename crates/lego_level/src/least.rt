@@ -36,7 +36,7 @@ pub fn lowest(
         match advance(task, edges, potential, &mut search)? {
             Step::More => {}
             Step::Ended => return Ok(search.draft),
-            Step::Stopped(_) => return Err(AllocError),
+            Step::Stopped(_) => unreachable!(),
         }
     }
 }
