@@ -1,11 +1,15 @@
 -- The constraints at a node.
-use Rattle.std.proofs.Common.{◌≡◌, ℕ, nat_eq, ◌+◌, ◌<◌, ◌≤◌, ◌⊎◌, Bool, true, false, cond, Option, Some, None, List, [], ◌∷◌, ◌++◌, length, Contains, refl, sym, ap, ◌∙◌, inl, inr, ⊎_elim, arith, subst}
+use Rattle.std.proofs.Common.{◌≡◌, ℕ, nat_eq, ◌+◌, ◌<◌, ◌≤◌, ◌⊎◌, Bool, true, false, cond, Option, Some, None, List, [], ◌∷◌, ◌++◌, length, Contains, Result, Ok, Err, refl, sym, ap, ◌∙◌, inl, inr, ⊎_elim, arith, subst}
+use Rattle.std.specs.Result.{OnOk, is_err}
 use Rattle.std.proofs.lemmas.Bool.Decides.{nat_tests}
 use Rattle.lego_level.specs.declared.constraint.Constraint.{Constraint}
 use Rattle.lego_level.specs.declared.direction.Direction.{Direction}
+use Rattle.lego_level.specs.declared.edges.Adjacency.{Adjacency}
+use Rattle.lego_level.specs.Adjacency.{adjacent_at}
+use Rattle.lego_level.specs.Graphs.{IsVariableBelow, HasVariablesBelow}
 use Rattle.lego_level.specs.Incidence.{near_of, is_node, incident}
 use Rattle.lego_level.proofs.MemberLemmas.{contains_none, contains_cases, contains_head, contains_tail}
-use Rattle.lego_level.proofs.SearchLemmas.{bool_cases}
+use Rattle.lego_level.proofs.SearchLemmas.{bool_cases, node_cases}
 
 pub node_is : (u w : Option ℕ) → is_node u w ≡ true → w ≡ u
 node_is None None h = refl
@@ -59,3 +63,25 @@ module _ (way : Direction) (u : Option ℕ) where
   incident_elsewhere (x ∷ cs) c ne = let r = incident_elsewhere cs c ne in ⊎_elim {C = incident way u (x ∷ (cs ++ c ∷ [])) ≡ incident way u (x ∷ cs)}
       (λ t. ap (λ b. cond b (x ∷ incident way u (cs ++ c ∷ [])) (incident way u (cs ++ c ∷ []))) t ∙ (r ∙ sym (ap (λ b. cond b (x ∷ incident way u cs) (incident way u cs)) t)))
       (λ t. ap (λ b. cond b (x ∷ incident way u (cs ++ c ∷ [])) (incident way u (cs ++ c ∷ []))) t ∙ (ap (λ ys. x ∷ ys) r ∙ sym (ap (λ b. cond b (x ∷ incident way u cs) (incident way u cs)) t))) (bool_cases (is_node u (near_of way x)))
+
+-- a constraint is kept at its node
+pub adjacent_push : (way : Direction) (a a' : Adjacency) (cs cs' : List Constraint) (c : Constraint) (w : Option ℕ) → near_of way c ≡ w → cs' ≡ cs ++ c ∷ [] → ((u : Option ℕ) → adjacent_at a u ≡ incident way u cs)
+    → adjacent_at a' w ≡ adjacent_at a w ++ c ∷ [] → ((u : Option ℕ) → (u ≡ w → ⊥) → adjacent_at a' u ≡ adjacent_at a u) → (u : Option ℕ) → adjacent_at a' u ≡ incident way u cs'
+adjacent_push way a a' cs cs' c w near is all at other u = ⊎_elim {C = adjacent_at a' u ≡ incident way u cs'}
+    (λ e. subst (λ z. adjacent_at a' z ≡ incident way z cs') (sym e) (at ∙ (ap (λ z. z ++ c ∷ []) (all w) ∙ (sym (incident_here way w cs c near) ∙ ap (incident way w) (sym is)))))
+    (λ ne. other u ne ∙ (all u ∙ (sym (incident_elsewhere way u cs c (λ k. ne (sym k ∙ near))) ∙ ap (incident way u) (sym is)))) (node_cases u w)
+
+pub variable_wider : (n m : ℕ) (w : Option ℕ) → n ≤ m → IsVariableBelow n w → IsVariableBelow m w
+variable_wider n m None l h = tt
+variable_wider n m (Some u) l h = omega (arith, l, h)
+
+variables_more : (n m : ℕ) (cs : List Constraint) (c : Constraint) → n ≤ m → HasVariablesBelow n cs → IsVariableBelow m c.low.base → IsVariableBelow m c.high.base → HasVariablesBelow m (cs ++ c ∷ [])
+variables_more n m [] c l all a b = ((a, b), tt)
+variables_more n m (x ∷ cs) c l all a b = ((variable_wider n m x.low.base l all.0.0, variable_wider n m x.high.base l all.0.1), variables_more n m cs c l all.1 a b)
+
+pub variables_push : (n k m : ℕ) (cs cs' : List Constraint) (c : Constraint) → n ≤ k → k ≤ m → HasVariablesBelow n cs → IsVariableBelow k c.low.base → IsVariableBelow m c.high.base → cs' ≡ cs ++ c ∷ [] → HasVariablesBelow m cs'
+variables_push n k m cs cs' c l j all a b is = subst (HasVariablesBelow m) (sym is) (variables_more n m cs c (omega (arith, l, j)) all (variable_wider k m c.low.base j a) b)
+
+pub not_err : {T E P : Type 0} (r : Result T E) → false ≡ is_err r → OnOk r P → P
+not_err (Ok x) h p = p
+not_err (Err e) h p = absurd (cc)

@@ -8,3 +8,4 @@ pub mod CountLemmas
 pub mod CycleLemmas
 pub mod MendLemmas
 pub mod LeastLemmas
+pub mod SolverLemmas

@@ -15,10 +15,10 @@ use Rattle.lego_level.specs.Searches.{reached_at, unreached, moved_to, IsMoved, 
 use Rattle.lego_level.proofs.MemberLemmas.{contains_cases}
 use Rattle.lego_level.proofs.SearchLemmas.{node_cases, relaxed}
 
-moved_zero : (v : Option ℕ → ℕ) (d : Option ℕ → Reached) (u : Option ℕ) → (d u).gain ≡ 0 → moved_to v d u ≡ v u
+pub moved_zero : (v : Option ℕ → ℕ) (d : Option ℕ → Reached) (u : Option ℕ) → (d u).gain ≡ 0 → moved_to v d u ≡ v u
 moved_zero v d u e = let t : nat_eq (d u).gain 0 ≡ true = grind (arith, nat_tests) in ap (λ b. cond b (v u) (d u).value) t
 
-moved_value : (v : Option ℕ → ℕ) (d : Option ℕ → Reached) (u : Option ℕ) → ((d u).gain ≡ 0 → ⊥) → moved_to v d u ≡ (d u).value
+pub moved_value : (v : Option ℕ → ℕ) (d : Option ℕ → Reached) (u : Option ℕ) → ((d u).gain ≡ 0 → ⊥) → moved_to v d u ≡ (d u).value
 moved_value v d u ne = let t : nat_eq (d u).gain 0 ≡ false = grind (arith, nat_tests) in ap (λ b. cond b (v u) (d u).value) t
 
 stays : (way : Direction) (x y g : ℕ) → g ≡ 0 → y ≡ x → IsMoved way x g y
