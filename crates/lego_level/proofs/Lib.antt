@@ -9,3 +9,5 @@ pub mod CycleLemmas
 pub mod MendLemmas
 pub mod LeastLemmas
 pub mod SolverLemmas
+pub mod MeaningLemmas
+pub mod GraphLemmas
