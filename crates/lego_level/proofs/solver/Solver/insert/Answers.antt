@@ -1,6 +1,5 @@
 use Rattle.std.proofs.Common.{◌≡◌, ◌<◌, ◌++◌, ◌∷◌, [], List, Contains, sym, ap, ◌∙◌, subst, arith}
 use Rattle.lego_level.specs.declared.constraint.Constraint.{Constraint}
-use Rattle.lego_level.specs.declared.search.Task.{Task}
 use Rattle.lego_level.specs.Graphs.{CanBeSatisfied, IsCycle, IsClosedWalk, IsKnown}
 use Rattle.lego_level.specs.Outcomes.{IsOutcome}
 use Rattle.lego_level.specs.Potentials.{value_at, low_of, high_of, IsFeasible}
@@ -36,7 +35,6 @@ pub returns-in_ok-cycle-in-Closed-clause-refused : goal.returns-in_ok-cycle-in-C
 returns-in_ok-cycle-in-Closed-clause-refused c =
     let v = value_at c.self.inside.potential in let cs = c.self.inside.edges in
     let o = subst (IsOutcome v cs c.args.added) c.in-Closed.is c.in_ok-draft.ensures in
-    let same : c.in-Closed.task.added ≡ c.args.added = ap (λ (t : Task). t.added) (sym c.in-Closed.task-is) ∙ o.0 in
     subst (λ z. IsCycle (z ++ c.args.added ∷ []) c.in_ok-cycle-in-Closed.cycle × (CanBeSatisfied (z ++ c.args.added ∷ []) → ⊥)) c.self.view_is
-    (refuses cs c.args.added c.in-Closed.task.added.low.base c.in_ok-cycle-in-Closed.cycle c.in_ok-cycle-in-Closed.ensures.closed
-    (λ x h. subst (λ a. IsKnown (a ∷ cs) x) same (c.in_ok-cycle-in-Closed.ensures.known x h)))
+    (refuses cs c.args.added c.in-Closed.field-0.task.added.low.base c.in_ok-cycle-in-Closed.cycle c.in_ok-cycle-in-Closed.ensures.closed
+    (λ x h. subst (λ a. IsKnown (a ∷ cs) x) o.0 (c.in_ok-cycle-in-Closed.ensures.known x h)))
