@@ -78,11 +78,7 @@ impl Draft {
     }
 
     /// Sets what is known of a node. The answer is what was known before.
-    fn set(
-        &mut self,
-        node: Option<u32>,
-        reached: Reached,
-    ) -> Result<Option<Reached>, AllocError>
+    fn set(&mut self, node: Option<u32>, reached: Reached) -> Result<Option<Reached>, AllocError>
         ensures before { IfOk result (λ o. o ≡ found_at self.old node) }
         ensures at { OnOk result (found_at self.new node ≡ Some reached) }
         ensures other { OnOk result ((u : Option ℕ) → (u ≡ node → ⊥) → found_at self.new u ≡ found_at self.old u) }

@@ -101,11 +101,13 @@ impl Solver {
                 keep(&mut self.potential, &draft);
                 Ok(())
             }
-            Outcome::Closed(Closing {
-                task,
-                draft,
-                closing,
-            }) => {
+            Outcome::Closed(
+                Closing {
+                    task,
+                    draft,
+                    closing,
+                },
+            ) => {
                 let (edges, potential) = (&self.edges, &self.potential);
                 let cycle = walk(alloc, task, edges, potential, &draft, closing)?;
                 Err(InsertFault::Cycle(cycle))

@@ -30,8 +30,8 @@ returns-in-None c =
     let len = c.in_ok-stopped.ensures.waiting in let popped = c.in-Some.ensures.len in (
       subst (λ o. MatchOption o (Searches t v cs n) (Stops t v cs n)) c.in-None.is c.in_ok-stopped.ensures.scanned,
       falls_visit t cs s m n c.in-Some.node (reached_below t v cs s c.in-Some.node c.requires.searches (omega (arith, p, w)))
-      (ap (λ (r : Reached). r.done) (sym c.get-from.ensures) ∙ c.if-from.false)
-      (ap (λ o. (reached_or o).done) c.in_ok-put.ensures.at)
-      (λ u ne. ap (λ o. (reached_or o).done) (c.in_ok-put.ensures.other u ne))
-      c.in_ok-stopped.ensures.done len popped,
+          (ap (λ (r : Reached). r.done) (sym c.get-from.ensures) ∙ c.if-from.false)
+          (ap (λ o. (reached_or o).done) c.in_ok-put.ensures.at)
+          (λ u ne. ap (λ o. (reached_or o).done) (c.in_ok-put.ensures.other u ne))
+          c.in_ok-stopped.ensures.done len popped,
     )
