@@ -1,5 +1,5 @@
 -- How often a search can go on.
-use Rattle.std.proofs.Common.{◌≡◌, ℕ, suc, zero, ◌+◌, ◌*◌, ◌<◌, ◌≤◌, ◌⊎◌, Bool, true, false, Option, Some, None, List, [], ◌∷◌, length, Contains, refl, sym, ap, ◌∙◌, inl, inr, ⊎_elim, arith, subst}
+use Rattle.std.proofs.Common.{◌≡◌, ℕ, suc, zero, ◌+◌, ◌*◌, ◌<◌, ◌≤◌, Bool, true, false, Option, Some, None, List, [], ◌∷◌, length, Contains, refl, sym, ap, ◌∙◌, ⊎_elim, arith, subst}
 use Rattle.std.proofs.lemmas.Bool.{cases_eq}
 use Rattle.lego_level.specs.declared.constraint.Constraint.{Constraint}
 use Rattle.lego_level.specs.declared.direction.Direction.{Direction}
@@ -9,7 +9,7 @@ use Rattle.lego_level.specs.declared.search.Search.{Search}
 use Rattle.lego_level.specs.Graphs.{implied, IsVariableBelow}
 use Rattle.lego_level.specs.Incidence.{far_of}
 use Rattle.lego_level.specs.Measures.{miss, unseen_below, unseen, above, ceiling, nodes_below, width, measure}
-use Rattle.lego_level.specs.Searches.{reached_at, IsScanned, IsEdge, IsReached, Searches, SameDone}
+use Rattle.lego_level.specs.Searches.{reached_at, IsScanned, IsEdge, Searches, SameDone}
 use Rattle.lego_level.proofs.MemberLemmas.{contains_none, contains_cases, contains_head, contains_tail}
 
 above_some : (base : Option ℕ) (u : ℕ) → base ≡ Some u → above base ≡ u + 1

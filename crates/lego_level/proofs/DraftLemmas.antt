@@ -1,5 +1,5 @@
 -- What is known of the reached nodes.
-use Rattle.std.proofs.Common.{◌≡◌, ℕ, Option, Some, None, List, [], ◌∷◌, ◌++◌, ◌⊎◌, Vec, Global, nat_eq, false, Contains, refl, sym, ap, ◌∙◌, inl, inr, ⊎_elim, arith, subst}
+use Rattle.std.proofs.Common.{◌≡◌, ℕ, Option, Some, None, [], ◌∷◌, ◌++◌, ◌⊎◌, Vec, Global, nat_eq, false, Contains, refl, sym, ap, ◌∙◌, inl, inr, ⊎_elim, arith, subst}
 use Rattle.std.specs.HashMap.{get}
 use Rattle.std.proofs.lemmas.Bool.Decides.{nat_tests}
 use Rattle.std.proofs.lemmas.List.Elements.{Contains-push, Contains-append_left}

@@ -1,14 +1,12 @@
 -- Lists of constraints, and what is said of their parts.
-use Rattle.std.proofs.Common.{◌≡◌, ℕ, suc, zero, ◌+◌, ◌-◌, ◌<◌, ◌≤◌, Option, Some, None, List, [], ◌∷◌, ◌++◌, length, get_or, take, drop, refl, sym, ap, ◌∙◌, inl, inr, ⊎_elim, arith, subst}
-use Rattle.std.specs.Option.{MatchOption, option_or}
-use Rattle.std.proofs.lemmas.Bool.{cases_lt, cases_eq}
-use Rattle.std.proofs.lemmas.List.{append_assoc, take-append-drop, take-take, length-take-le, get_or_past, get_or_append_left, get_or_push}
+use Rattle.std.proofs.Common.{◌≡◌, ℕ, ◌+◌, ◌-◌, ◌<◌, ◌≤◌, List, [], ◌∷◌, ◌++◌, length, take, drop, sym, ap, ◌∙◌, inl, inr, ⊎_elim, arith, subst}
+use Rattle.std.proofs.lemmas.List.{append_assoc, take-append-drop, take-take, length-take-le}
 use Rattle.std.proofs.lemmas.List.Elements.{Contains-append_left}
-use Rattle.lego_term.specs.Levels.{Assignment, SatisfiesAll, node_value}
+use Rattle.lego_term.specs.Levels.{Assignment, SatisfiesAll}
 use Rattle.lego_level.specs.declared.constraint.Constraint.{Constraint}
 use Rattle.lego_level.specs.declared.solver.InsertFault.{InsertFault}
 use Rattle.lego_level.specs.declared.solver.InsertFault.TheVariants as insert
-use Rattle.lego_level.specs.Graphs.{pairs_of, IsKnown, IsLeast, Exceeds, CanBeSatisfied, CanBeSatisfiedWithin, IsVariableBelow, HasVariablesBelow}
+use Rattle.lego_level.specs.Graphs.{pairs_of, IsKnown, CanBeSatisfiedWithin}
 use Rattle.lego_level.specs.Faults.{IsInsertFault}
 use Rattle.lego_level.specs.Refusals.{graph_fault, IsGraphFault}
 use Rattle.lego_level.proofs.LeastLemmas.{meets, satisfies}

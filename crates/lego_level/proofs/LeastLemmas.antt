@@ -1,6 +1,6 @@
 -- The least solution, from a search up from the zero node.
-use Rattle.std.proofs.Common.{◌≡◌, ℕ, suc, zero, ◌+◌, ◌<◌, ◌≤◌, ◌⊎◌, Bool, true, false, Option, Some, None, List, [], ◌∷◌, length, get_or, Contains, refl, sym, ap, ◌∙◌, inl, inr, ⊎_elim, arith, subst}
-use Rattle.std.proofs.lemmas.Bool.{cases_lt, cases_eq}
+use Rattle.std.proofs.Common.{◌≡◌, ℕ, suc, zero, ◌+◌, ◌<◌, ◌≤◌, ◌⊎◌, Option, Some, None, List, [], ◌∷◌, length, get_or, Contains, refl, sym, ap, ◌∙◌, inl, inr, ⊎_elim, arith, subst}
+use Rattle.std.proofs.lemmas.Bool.{cases_lt}
 use Rattle.std.proofs.lemmas.List.{get_or_past}
 use Rattle.lego_term.specs.Levels.{Assignment, Satisfies, SatisfiesAll, node_value}
 use Rattle.lego_level.specs.declared.constraint.Constraint.{Constraint}
@@ -9,8 +9,8 @@ use Rattle.lego_level.specs.declared.draft.Reached.{Reached}
 use Rattle.lego_level.specs.declared.search.Task.{Task}
 use Rattle.lego_level.specs.declared.search.Search.{Search}
 use Rattle.lego_level.specs.Graphs.{implied, IsLeast, Forces, IsVariableBelow, HasVariablesBelow, pairs_of}
-use Rattle.lego_level.specs.Lowest.{values_in, IsForced, IsLowest}
-use Rattle.lego_level.specs.Potentials.{low_of, high_of, IsFeasible}
+use Rattle.lego_level.specs.Lowest.{IsForced, IsLowest}
+use Rattle.lego_level.specs.Potentials.{IsFeasible}
 use Rattle.lego_level.specs.Searches.{blank, reached_at, IsEdge, IsRelaxed, IsLinked, Searches, Stops}
 use Rattle.lego_level.proofs.MemberLemmas.{contains_none, contains_cases, contains_head, contains_tail}
 use Rattle.lego_level.proofs.SearchLemmas.{edge_known, relaxed}

@@ -1,5 +1,5 @@
 -- What the solver's answers mean.
-use Rattle.std.proofs.Common.{◌≡◌, ℕ, ◌+◌, ◌-◌, ◌<◌, ◌≤◌, ◌⊎◌, Option, Some, None, Result, Ok, Err, Vec, Global, List, [], ◌∷◌, ◌++◌, length, get_or, map, Contains, refl, sym, ap, ◌∙◌, inl, inr, ⊎_elim, arith, subst}
+use Rattle.std.proofs.Common.{◌≡◌, ℕ, ◌+◌, ◌-◌, ◌<◌, ◌≤◌, Option, Some, None, Result, Ok, Err, Vec, Global, List, [], ◌∷◌, ◌++◌, length, get_or, map, Contains, refl, sym, ap, inl, inr, ⊎_elim, arith, subst}
 use Rattle.std.specs.List.{range_with_len}
 use Rattle.std.specs.Result.{IfOk}
 use Rattle.std.specs.declared.alloc.AllocError.{AllocError}
@@ -11,7 +11,7 @@ use Rattle.lego_level.specs.declared.draft.Reached.{Reached}
 use Rattle.lego_level.specs.declared.potential.Potential.{Potential}
 use Rattle.lego_level.specs.declared.solver.Settled.TheVariants.{Within, Over}
 use Rattle.lego_level.specs.Graphs.{implied, IsKnown, IsLeast, Forces, IsClosedWalk, IsCycle, IsVariableBelow, HasVariablesBelow, CanBeSatisfied, CanBeSatisfiedWithin}
-use Rattle.lego_level.specs.Lowest.{values_in, IsLowest}
+use Rattle.lego_level.specs.Lowest.{IsLowest}
 use Rattle.lego_level.specs.Outcomes.{IsSettled}
 use Rattle.lego_level.specs.Potentials.{value_at, low_of, high_of, IsFeasible, IsBelowTop}
 use Rattle.lego_level.proofs.CycleLemmas.{cycle_excludes}

@@ -1,5 +1,5 @@
 -- What holds once a search has ended or stopped.
-use Rattle.std.proofs.Common.{◌≡◌, ℕ, ◌+◌, ◌<◌, ◌≤◌, ◌⊎◌, Bool, true, false, nat_eq, cond, Option, Some, None, List, [], ◌∷◌, Contains, refl, sym, ap, ◌∙◌, inl, inr, ⊎_elim, arith, subst}
+use Rattle.std.proofs.Common.{◌≡◌, ℕ, ◌+◌, ◌<◌, ◌≤◌, true, false, nat_eq, cond, Option, None, List, [], ◌∷◌, refl, sym, ap, ◌∙◌, inl, inr, ⊎_elim, arith, subst}
 use Rattle.std.proofs.lemmas.Bool.{cases_eq}
 use Rattle.std.proofs.lemmas.Bool.Decides.{nat_tests}
 use Rattle.lego_level.specs.declared.constraint.Constraint.{Constraint}
@@ -8,12 +8,12 @@ use Rattle.lego_level.specs.declared.direction.Direction.TheVariants.{Up, Down}
 use Rattle.lego_level.specs.declared.draft.Reached.{Reached}
 use Rattle.lego_level.specs.declared.search.Task.{Task}
 use Rattle.lego_level.specs.declared.search.Search.{Search}
-use Rattle.lego_level.specs.Graphs.{implied, IsKnown}
+use Rattle.lego_level.specs.Graphs.{implied}
 use Rattle.lego_level.specs.Incidence.{near_of, far_of}
 use Rattle.lego_level.specs.Potentials.{low_of, high_of, IsFeasible}
-use Rattle.lego_level.specs.Searches.{reached_at, unreached, moved_to, IsMoved, IsScanned, IsEdge, IsUpperZero, IsStop, IsRelaxed, IsReached, Searches, Stops, Turns}
+use Rattle.lego_level.specs.Searches.{reached_at, unreached, moved_to, IsMoved, IsScanned, IsEdge, IsUpperZero, IsStop, IsRelaxed, Searches, Stops, Turns}
 use Rattle.lego_level.proofs.MemberLemmas.{contains_cases}
-use Rattle.lego_level.proofs.SearchLemmas.{node_cases, relaxed}
+use Rattle.lego_level.proofs.SearchLemmas.{relaxed}
 
 pub moved_zero : (v : Option ℕ → ℕ) (d : Option ℕ → Reached) (u : Option ℕ) → (d u).gain ≡ 0 → moved_to v d u ≡ v u
 moved_zero v d u e = let t : nat_eq (d u).gain 0 ≡ true = grind (arith, nat_tests) in ap (λ b. cond b (v u) (d u).value) t

@@ -1,7 +1,6 @@
 -- How a search goes on.
 use Rattle.std.proofs.Common.{◌≡◌, ℕ, ◌+◌, ◌<◌, ◌≤◌, ◌⊎◌, Bool, true, false, Option, Some, None, List, [], Contains, refl, sym, ap, ◌∙◌, inl, inr, ⊎_elim, arith, subst}
 use Rattle.std.proofs.lemmas.Bool.{cases_eq}
-use Rattle.std.proofs.lemmas.Bool.Decides.{nat_tests}
 use Rattle.lego_level.specs.declared.constraint.Constraint.{Constraint}
 use Rattle.lego_level.specs.declared.draft.Reached.{Reached}
 use Rattle.lego_level.specs.declared.search.Task.{Task}
@@ -9,7 +8,7 @@ use Rattle.lego_level.specs.declared.search.Search.{Search}
 use Rattle.lego_level.specs.Graphs.{IsKnown}
 use Rattle.lego_level.specs.Incidence.{near_of, far_of}
 use Rattle.lego_level.specs.Potentials.{low_of, high_of, IsFeasible}
-use Rattle.lego_level.specs.Searches.{found_at, reached_or, reached_at, unreached, IsTouched, IsEdge, IsStop, IsRelaxed, IsFirst, IsLinked, IsReached, IsQueued, Grown, AreRelaxed, IsAt, Scans, Searches, Stops, IsPut, IsStopped, IsPassed, IsPushed, SameDone}
+use Rattle.lego_level.specs.Searches.{found_at, reached_or, reached_at, unreached, IsTouched, IsEdge, IsStop, IsRelaxed, IsFirst, IsLinked, IsReached, IsQueued, IsAt, Scans, Searches, Stops, IsPut, IsPushed, SameDone}
 use Rattle.lego_level.proofs.MemberLemmas.{contains_none}
 
 pub node_cases : (a b : Option ℕ) → (a ≡ b) ⊎ (a ≡ b → ⊥)

@@ -1,17 +1,16 @@
 -- The loops over what a search reached, and over the variables.
-use Rattle.std.proofs.Common.{◌≡◌, ℕ, nat_eq, ◌+◌, ◌-◌, ◌<◌, ◌≤◌, ◌⊎◌, true, false, cond, Option, Some, None, List, [], ◌∷◌, ◌++◌, length, get_or, take, drop, map, Contains, refl, sym, ap, ◌∙◌, inl, inr, ⊎_elim, arith, subst}
+use Rattle.std.proofs.Common.{◌≡◌, ℕ, ◌+◌, ◌-◌, ◌<◌, ◌≤◌, ◌⊎◌, Option, Some, None, List, [], ◌∷◌, ◌++◌, length, get_or, take, drop, map, Contains, refl, sym, ap, ◌∙◌, inl, inr, ⊎_elim, arith, subst}
 use Rattle.std.specs.List.{range_with_len}
 use Rattle.std.proofs.lemmas.Bool.{cases_eq, cases_lt}
-use Rattle.std.proofs.lemmas.Bool.Decides.{nat_tests}
 use Rattle.std.proofs.lemmas.List.{drop_more, take_more, get_or_append_left, get_or_push, get_or_past, take-append-drop, nil_from_length, drop_all}
-use Rattle.std.proofs.lemmas.List.Elements.{Contains-get_or, Contains-push_cases, Contains-push, Contains-append_left}
+use Rattle.std.proofs.lemmas.List.Elements.{Contains-get_or, Contains-append_left}
 use Rattle.std.proofs.lemmas.List.FromFn.{length-map-range_with_len, get_or-map-range_with_len}
-use Rattle.lego_term.specs.Levels.{Assignment, SatisfiesAll, node_value}
+use Rattle.lego_term.specs.Levels.{Assignment, node_value}
 use Rattle.lego_level.specs.declared.constraint.Constraint.{Constraint}
 use Rattle.lego_level.specs.declared.draft.Reached.{Reached}
 use Rattle.lego_level.specs.declared.draft.Draft.{Draft}
-use Rattle.lego_level.specs.Graphs.{implied, pairs_of, IsKnown, IsVariableBelow, HasVariablesBelow, CanBeSatisfiedWithin}
-use Rattle.lego_level.specs.Potentials.{low_of, high_of, IsFeasible}
+use Rattle.lego_level.specs.Graphs.{implied, IsKnown, IsVariableBelow, HasVariablesBelow, CanBeSatisfiedWithin}
+use Rattle.lego_level.specs.Potentials.{IsFeasible}
 use Rattle.lego_level.specs.Searches.{blank, found_at, reached_or, reached_at, moved_to, IsTouched}
 use Rattle.lego_level.proofs.DraftLemmas.{option_cases}
 use Rattle.lego_level.proofs.LeastLemmas.{low_variable, satisfies}

@@ -1,18 +1,17 @@
 -- The steps of the loops of a search.
-use Rattle.std.proofs.Common.{◌≡◌, ℕ, ◌+◌, ◌<◌, ◌≤◌, ◌⊎◌, Bool, true, false, Option, Some, None, List, [], ◌∷◌, length, get_or, drop, Contains, refl, sym, ap, ◌∙◌, inl, inr, ⊎_elim, arith, subst}
+use Rattle.std.proofs.Common.{◌≡◌, ℕ, ◌+◌, ◌<◌, ◌≤◌, ◌⊎◌, true, false, Option, Some, None, List, [], ◌∷◌, length, get_or, drop, Contains, refl, sym, ap, ◌∙◌, inl, inr, ⊎_elim, arith, subst}
 use Rattle.std.proofs.lemmas.Bool.{cases_eq}
 use Rattle.std.proofs.lemmas.List.{drop_more}
 use Rattle.std.proofs.lemmas.List.Elements.{Contains-get_or}
 use Rattle.lego_level.specs.declared.constraint.Constraint.{Constraint}
-use Rattle.lego_level.specs.declared.direction.Direction.{Direction}
 use Rattle.lego_level.specs.declared.direction.Direction.TheVariants.{Up, Down}
 use Rattle.lego_level.specs.declared.draft.Reached.{Reached}
 use Rattle.lego_level.specs.declared.search.Task.{Task}
 use Rattle.lego_level.specs.declared.search.Search.{Search}
 use Rattle.lego_level.specs.Graphs.{implied}
-use Rattle.lego_level.specs.Incidence.{near_of, far_of, incident}
-use Rattle.lego_level.specs.Potentials.{low_of, high_of, IsFeasible}
-use Rattle.lego_level.specs.Searches.{reached_at, IsEdge, IsScanned, IsReached, IsQueued, Grown, IsAt, IsImpliedAt, Scans, Searches, Stops, Visited, SameDone}
+use Rattle.lego_level.specs.Incidence.{near_of, incident}
+use Rattle.lego_level.specs.Potentials.{IsFeasible}
+use Rattle.lego_level.specs.Searches.{reached_at, IsEdge, IsScanned, Grown, IsAt, IsImpliedAt, Scans, Searches, Stops, Visited, SameDone}
 use Rattle.lego_level.proofs.IncidenceLemmas.{incident_member, member_incident}
 use Rattle.lego_level.proofs.MemberLemmas.{contains_none, contains_cases}
 use Rattle.lego_level.proofs.SearchLemmas.{edge_known, true_false, passes, pushes, stopped, retodo}

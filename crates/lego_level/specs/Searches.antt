@@ -1,5 +1,5 @@
 -- What is known while a search goes on.
-use Rattle.std.specs.Prelude.{◌≡◌, ◌==◌, nat_eq, ℕ, ◌+◌, ◌<◌, ◌≤◌, ◌⊎◌, Bool, true, false, List, [], ◌∷◌, Option, Some, None, Contains, length, if◌then◌else◌}
+use Rattle.std.specs.Prelude.{◌≡◌, ◌==◌, nat_eq, ℕ, ◌+◌, ◌<◌, ◌≤◌, ◌⊎◌, Bool, true, false, List, Option, Some, None, Contains, length, if◌then◌else◌}
 use Rattle.std.specs.HashMap.{get}
 use Rattle.lego_level.specs.declared.constraint.Constraint.{Constraint}
 use Rattle.lego_level.specs.declared.direction.Direction.{Direction}
@@ -8,7 +8,7 @@ use Rattle.lego_level.specs.declared.draft.Reached.{Reached}
 use Rattle.lego_level.specs.declared.draft.Draft.{Draft}
 use Rattle.lego_level.specs.declared.search.Task.{Task}
 use Rattle.lego_level.specs.declared.search.Search.{Search}
-use Rattle.lego_level.specs.Graphs.{implied, IsKnown}
+use Rattle.lego_level.specs.Graphs.{implied}
 use Rattle.lego_level.specs.Incidence.{near_of, far_of}
 use Rattle.lego_level.specs.Potentials.{low_of, high_of}
 

@@ -1,9 +1,8 @@
-use Rattle.std.proofs.Common.{◌≡◌, ◌∷◌, ◌++◌, [], List, ℕ, Option, Contains, reverse, sym, ap, ◌∙◌, subst}
+use Rattle.std.proofs.Common.{◌≡◌, ◌∷◌, ◌++◌, [], Contains, reverse, sym, ap, ◌∙◌, subst}
 use Rattle.std.proofs.lemmas.List.{reverse-append}
-use Rattle.lego_level.specs.declared.constraint.Constraint.{Constraint}
 use Rattle.lego_level.specs.declared.direction.Direction.TheVariants.{Up}
 use Rattle.lego_level.specs.declared.draft.Reached.{Reached}
-use Rattle.lego_level.specs.Graphs.{IsClosedWalk, IsKnown}
+use Rattle.lego_level.specs.Graphs.{IsClosedWalk}
 use Rattle.lego_level.specs.Potentials.{value_at}
 use Rattle.lego_level.specs.Searches.{reached_at}
 use Rattle.lego_level.proofs.CycleLemmas.{WalkedBack, rounds, back_starts, back_more, back_ends, bases_apart, bases_same}

@@ -1,8 +1,7 @@
-use Rattle.std.proofs.Common.{◌≡◌, ◌<◌, ◌∷◌, ◌++◌, [], List, ℕ, Option, Contains, sym, ap, ◌∙◌, subst}
-use Rattle.lego_level.specs.declared.constraint.Constraint.{Constraint}
+use Rattle.std.proofs.Common.{◌≡◌, ◌<◌, ◌∷◌, ◌++◌, [], Contains, sym, ap, ◌∙◌, subst}
 use Rattle.lego_level.specs.declared.direction.Direction.TheVariants.{Down}
 use Rattle.lego_level.specs.declared.draft.Reached.{Reached}
-use Rattle.lego_level.specs.Graphs.{IsClosedWalk, IsKnown}
+use Rattle.lego_level.specs.Graphs.{IsClosedWalk}
 use Rattle.lego_level.specs.Potentials.{value_at}
 use Rattle.lego_level.specs.Searches.{reached_at}
 use Rattle.lego_level.proofs.CycleLemmas.{WalkedOn, rounds, on_starts, on_more, on_ends, bases_apart, bases_same}

@@ -1,8 +1,7 @@
-use Rattle.std.proofs.Common.{◌≡◌, None, refl, sym, subst}
+use Rattle.std.proofs.Common.{refl, sym, subst}
 use Rattle.lego_level.specs.declared.direction.Direction.TheVariants.{Up, Down}
 use Rattle.lego_level.specs.declared.search.Task.{Task}
 use Rattle.lego_level.specs.Potentials.{value_at}
-use Rattle.lego_level.specs.Searches.{Stops}
 use Rattle.lego_level.specs.Steps.{IsStep}
 use Rattle.lego_level.proofs.CycleLemmas.{bases_equal}
 use Rattle.lego_level.proofs.MendLemmas.{mended, turned, stop_down}

@@ -1,4 +1,4 @@
-use Rattle.std.proofs.Common.{◌≡◌, ◌+◌, None, true, false, refl, ◌∙◌, sym, ap, subst, arith}
+use Rattle.std.proofs.Common.{◌+◌, None, false, refl, subst, arith}
 use Rattle.lego_level.specs.Graphs.{implied}
 use Rattle.lego_level.specs.Potentials.{value_at}
 use Rattle.lego_level.specs.Searches.{IsImpliedAt, Visited}

@@ -1,6 +1,5 @@
-use Rattle.std.proofs.Common.{◌≡◌, ◌≤◌, ◌+◌, ℕ, Option, [], get_or, drop, length, true, false, refl, ◌∙◌, sym, ap, subst, arith}
+use Rattle.std.proofs.Common.{◌≡◌, ◌+◌, [], get_or, drop, length, true, false, refl, ap, subst, arith}
 use Rattle.std.proofs.lemmas.List.{drop_all}
-use Rattle.lego_level.specs.declared.search.Search.{Search}
 use Rattle.lego_level.specs.Incidence.{incident}
 use Rattle.lego_level.specs.Potentials.{value_at}
 use Rattle.lego_level.specs.Searches.{blank, IsAt, IsImpliedAt, Visited}

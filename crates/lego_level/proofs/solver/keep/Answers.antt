@@ -1,4 +1,4 @@
-use Rattle.std.proofs.Common.{◌≡◌, ◌+◌, ◌<◌, ◌≤◌, ℕ, Option, None, get_or, drop, length, sym, ap, ◌∙◌, arith, subst}
+use Rattle.std.proofs.Common.{◌≡◌, ◌+◌, ℕ, Option, None, get_or, drop, length, sym, ap, ◌∙◌, arith, subst}
 use Rattle.std.proofs.lemmas.List.{drop_all}
 use Rattle.std.proofs.Math.Path.{fun_ext}
 use Rattle.lego_level.specs.declared.draft.Reached.{Reached}

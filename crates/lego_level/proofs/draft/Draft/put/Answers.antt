@@ -1,5 +1,4 @@
 use Rattle.std.proofs.Common.{ℕ, Option, Vec, Global, ◌++◌, ◌∷◌, [], refl, ◌∙◌, ap}
-use Rattle.lego_level.specs.declared.draft.Draft.{Draft}
 use Rattle.lego_level.proofs.DraftLemmas.{found_same, touched_new}
 use Rattle.lego_level.proofs.draft.Draft.put.Goals as goal
 

@@ -1,6 +1,5 @@
-use Rattle.std.proofs.Common.{◌≡◌, ℕ, Option, refl, sym, ap, ◌∙◌, rules, arith}
+use Rattle.std.proofs.Common.{refl, ◌∙◌, arith}
 use Rattle.std.proofs.lemmas.Grind.{common_steps}
-use Rattle.lego_level.specs.Searches.{found_at}
 use Rattle.lego_level.proofs.DraftLemmas.{found_zero, found_variable, set_zero, set_variable}
 use Rattle.lego_level.proofs.draft.Draft.set.Goals as goal
 

@@ -1,7 +1,6 @@
-use Rattle.std.proofs.Common.{sym, ap, ◌∙◌, arith}
+use Rattle.std.proofs.Common.{sym, arith}
 use Rattle.std.proofs.lemmas.Grind.{common_steps}
 use Rattle.lego_level.proofs.PotentialLemmas.{value_zero, value_variable}
-use Rattle.lego_level.proofs.DraftLemmas.{option_cases}
 use Rattle.lego_level.proofs.potential.Potential.value.Goals as goal
 
 pub returns-in_default : goal.returns-in_default

@@ -1,6 +1,5 @@
 use Rattle.std.proofs.Common.{refl, arith}
 use Rattle.std.proofs.lemmas.Grind.{common_steps}
-use Rattle.lego_level.specs.Potentials.{HasRoom}
 use Rattle.lego_level.proofs.PotentialLemmas.{value_zero, zero_other, set_at, set_other, top_zero, top_set, room_variable}
 use Rattle.lego_level.proofs.potential.Potential.write.Goals as goal
 

@@ -1,6 +1,5 @@
-use Rattle.std.proofs.Common.{◌≡◌, ◌<◌, ◌++◌, ◌∷◌, [], List, Contains, sym, ap, ◌∙◌, subst, arith}
-use Rattle.lego_level.specs.declared.constraint.Constraint.{Constraint}
-use Rattle.lego_level.specs.Graphs.{CanBeSatisfied, IsCycle, IsClosedWalk, IsKnown}
+use Rattle.std.proofs.Common.{◌≡◌, ◌<◌, ◌++◌, ◌∷◌, [], sym, ap, ◌∙◌, subst, arith}
+use Rattle.lego_level.specs.Graphs.{CanBeSatisfied, IsCycle, IsKnown}
 use Rattle.lego_level.specs.Outcomes.{IsOutcome}
 use Rattle.lego_level.specs.Potentials.{value_at, low_of, high_of, IsFeasible}
 use Rattle.lego_level.specs.Searches.{reached_at, moved_to}

@@ -1,7 +1,6 @@
-use Rattle.std.proofs.Common.{◌≤◌, ◌-◌, subst}
+use Rattle.std.proofs.Common.{subst}
 use Rattle.lego_level.specs.Graphs.{CanBeSatisfiedWithin, Forces}
 use Rattle.lego_level.specs.Outcomes.{IsSettled}
-use Rattle.lego_level.specs.Potentials.{value_at}
 use Rattle.lego_level.specs.Searches.{reached_at}
 use Rattle.lego_level.proofs.MeaningLemmas.{zero_below_top, narrow, laid_out, laid_out_within, forces_over}
 use Rattle.lego_level.proofs.solver.Solver.settle.Goals as goal
