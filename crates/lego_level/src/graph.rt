@@ -1,5 +1,5 @@
 //! The graph of constraints.
-ghost use Rattle.std.specs.Prelude.{◌≡◌, ◌≤◌, ◌<◌, ◌++◌, [], ℕ, length, take, IfOk, IfErr, OnOk, OnErr};
+ghost use Rattle.std.specs.Prelude.{◌≡◌, ◌≤◌, ◌<◌, ◌++◌, [], length, take, IfOk, IfErr, OnOk, OnErr};
 ghost use Rattle.lego_level.specs.Graphs.{CanBeSatisfiedWithin, HasVariablesBelow, IsLeast};
 ghost use Rattle.lego_level.specs.Refusals.{IsGraphFault};
 

@@ -1,5 +1,5 @@
 //! The least solution, from a potential: all that can rise with the zero node rises with it.
-ghost use Rattle.std.specs.Prelude.{◌≡◌, IfOk};
+ghost use Rattle.std.specs.Prelude.{IfOk};
 ghost use Rattle.lego_level.specs.Graphs.{HasVariablesBelow};
 ghost use Rattle.lego_level.specs.Lowest.{IsLowest};
 ghost use Rattle.lego_level.specs.Potentials.{value_at, IsFeasible, IsBelowTop};

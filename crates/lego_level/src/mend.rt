@@ -51,9 +51,7 @@ pub fn mend(
     };
     let lower = Task {
         direction: Direction::Down,
-        added,
-        gain: lack,
-        count: 0,
+        ..raise
     };
     let mut up = start(alloc, raise, edges, potential)?;
     let mut down = start(alloc, lower, edges, potential)?;

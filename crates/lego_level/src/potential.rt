@@ -1,5 +1,5 @@
 //! A value for each node, such that the constraints are satisfied.
-ghost use Rattle.std.specs.Prelude.{◌≡◌, ◌<◌, ◌≤◌, ℕ, Option, IfOk, OnOk, length, Some};
+ghost use Rattle.std.specs.Prelude.{◌≡◌, ◌<◌, ℕ, Option, IfOk, OnOk, Some};
 ghost use Rattle.lego_level.specs.Potentials.{value_at, low_of, high_of, HasRoom, IsBelowTop};
 
 use crate::constraint::Constraint;

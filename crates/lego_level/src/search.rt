@@ -2,13 +2,13 @@
 //! nodes are visited in the order of their gains, the greatest first, so each is visited once
 //! (Cotton and Maler 2006, after Dijkstra). Where the search comes back to the other end of the
 //! constraint there is a cycle.
-ghost use Rattle.std.specs.Prelude.{◌≡◌, ◌+◌, ◌<◌, ◌≤◌, ℕ, Bool, true, false, None, length, Option, IfOk, OnOk, IsTrue, ◌↔◌, MatchOption};
+ghost use Rattle.std.specs.Prelude.{◌≡◌, ◌+◌, ◌<◌, ◌≤◌, true, false, None, length, Option, IfOk, OnOk, IsTrue, ◌↔◌, MatchOption};
 ghost use Rattle.lego_level.specs.Graphs.{implied};
-ghost use Rattle.lego_level.specs.Incidence.{incident, far_of};
+ghost use Rattle.lego_level.specs.Incidence.{incident};
 ghost use Rattle.lego_level.specs.declared.constraint.Constraint.{Constraint};
 ghost use Rattle.lego_level.specs.declared.direction.Direction.TheVariants.{Up};
 ghost use Rattle.lego_level.specs.Potentials.{value_at, low_of, high_of, IsFeasible};
-ghost use Rattle.lego_level.specs.Searches.{reached_at, IsEdge, IsStop, IsMoved, IsPut, Visited, Scans, Searches, Stops, IsAt, IsImpliedAt, SameDone};
+ghost use Rattle.lego_level.specs.Searches.{IsStop, IsMoved, IsPut, Visited, Scans, Searches, Stops, IsAt, IsImpliedAt, SameDone};
 ghost use Rattle.lego_level.specs.Steps.{IsStep};
 
 use crate::constraint::Constraint;
@@ -96,42 +96,44 @@ pub fn start(
         work: 0,
     };
     let node = task.direction.far(task.added);
-    reach(
-        task,
-        edges,
-        potential,
-        task.added,
-        node,
-        task.gain,
-        1,
-        &mut search,
-    )?;
+    let push = Push {
+        gain: task.gain,
+        rank: 1,
+        cause: task.added,
+    };
+    reach(task, edges, potential, node, push, &mut search)?;
     Ok(search)
 }
 
-/// Sets how far a node is to be moved, by a constraint.
+/// How far a node is to be moved, the constraint that forces it, and the rank that it gets.
+#[derive(Debug, Clone, Copy, PartialEq, Eq)]
+struct Push {
+    gain: u64,
+    rank: u64,
+    cause: Constraint,
+}
+
+/// Sets how far a node is to be moved.
 fn reach(
     task: Task,
     edges: &Edges,
     potential: &Potential,
-    cause: Constraint,
     node: Option<u32>,
-    gain: u64,
-    rank: u64,
+    push: Push,
     search: &mut Search,
 ) -> Result<(), AllocError>
-    ensures { OnOk result (IsPut task (value_at potential.now) node cause gain rank search.old search.new) }
+    ensures { OnOk result (IsPut task (value_at potential.now) node push.cause push.gain push.rank search.old search.new) }
 {
-    let value = moved(task.direction, potential.value(node), gain)?;
+    let value = moved(task.direction, potential.value(node), push.gain)?;
     let reached = Reached {
-        gain,
+        gain: push.gain,
         value,
-        rank,
-        cause,
+        rank: push.rank,
+        cause: push.cause,
         done: false,
     };
     search.draft.put(node, reached)?;
-    search.queue.push(gain, node)?;
+    search.queue.push(push.gain, node)?;
     let work = edges.incident(task.direction, node).len() as u64;
     search.work = search.work.saturating_add(work).saturating_add(1);
     Ok(())
@@ -171,8 +173,12 @@ fn visit(
     if task.stops_at(node) {
         return Ok(true);
     }
-    let rank = from.rank.checked_add(1).ok_or(AllocError)?;
-    reach(task, edges, potential, constraint, node, gain, rank, search)?;
+    let push = Push {
+        gain,
+        rank: from.rank.checked_add(1).ok_or(AllocError)?,
+        cause: constraint,
+    };
+    reach(task, edges, potential, node, push, search)?;
     Ok(false)
 }
 
