@@ -61,8 +61,8 @@ least_result cs n d z below (Ok xs) len values = least_values cs n d z below xs.
 least_result cs n d z below (Err e) len values = tt
 
 -- least values, laid out
-pub laid_out : (cs : List Constraint) (n : ℕ) (d : Option ℕ → Reached) (p : Potential) → IsLowest cs n d → HasVariablesBelow n cs → IsSettled n d (Within p) → IsFeasible (value_at p) cs
-laid_out cs n d p z below s c known =
+pub laid_out : (cs : List Constraint) (n limit : ℕ) (d : Option ℕ → Reached) (p : Potential) → IsLowest cs n d → HasVariablesBelow n cs → IsSettled n limit d (Within p) → IsFeasible (value_at p) cs
+laid_out cs n limit d p z below s c known =
     let node : (w : Option ℕ) → IsVariableBelow n w → value_at p w + (d None).value ≡ value_at p None + (d w).value = node_out in
     ⊎_elim {C = low_of (value_at p) c ≤ high_of (value_at p) c}
     (λ h. let k = z.holds c h in let b = low_variable n cs c below h in let x = node c.low.base b.0 in let y = node c.high.base b.1 in omega (arith, k, x, y))
@@ -72,11 +72,11 @@ laid_out cs n d p z below s c known =
     node_out None h = refl
     node_out (Some u) h = s.0 u h
 
-pub laid_out_within : (cs : List Constraint) (n : ℕ) (d : Option ℕ → Reached) (p : Potential) → IsLowest cs n d → HasVariablesBelow n cs → IsSettled n d (Within p) → CanBeSatisfiedWithin cs
-laid_out_within cs n d p z below s = satisfied_within (value_at p) n cs (laid_out cs n d p z below s) below s.2
+pub laid_out_within : (cs : List Constraint) (n : ℕ) (d : Option ℕ → Reached) (p : Potential) → IsLowest cs n d → HasVariablesBelow n cs → IsSettled n 1000000 d (Within p) → CanBeSatisfiedWithin cs
+laid_out_within cs n d p z below s = satisfied_within (value_at p) n cs (laid_out cs n 1000000 d p z below s) below s.2
 
 -- a least value over the limit
-pub forces_over : (cs : List Constraint) (n : ℕ) (d : Option ℕ → Reached) (c : Constraint) (needed : ℕ) → IsLowest cs n d → HasVariablesBelow n cs → IsSettled n d (Over c needed) → Forces cs c needed
+pub forces_over : (cs : List Constraint) (n : ℕ) (d : Option ℕ → Reached) (c : Constraint) (needed : ℕ) → IsLowest cs n d → HasVariablesBelow n cs → IsSettled n 1000000 d (Over c needed) → Forces cs c needed
 forces_over cs n d c needed z below s =
     let f : ℕ → ℕ = λ u. (d (Some u)).value - (d None).value in let xs = map f (range_with_len 0 n) in
     let at : (u : ℕ) → u < n → get_or xs u 0 ≡ (d (Some u)).value - (d None).value = λ u h. get_or-map-range_with_len f 0 n u u 0 h (omega arith) in

@@ -14,7 +14,7 @@ IsOutcome v cs e (Mended d) = IsFeasible (moved_to v (reached_at d)) (e ∷ cs) 
 IsOutcome v cs e (Closed k) = (k.task.added ≡ e) × Turns k.task v cs (reached_at k.draft) k.closing
 
 -- the values of the variables below n, laid out above the zero node; or one over the limit, with its cause
-abbrev pub IsSettled : ℕ → (Option ℕ → Reached) → Settled → Type 0
-IsSettled n d (Within p) = ((u : ℕ) → u < n → value_at p (Some u) + (d None).value ≡ value_at p None + (d (Some u)).value)
-    × ((u : ℕ) → value_at p None ≤ value_at p (Some u)) × ((u : ℕ) → value_at p (Some u) ≤ value_at p None + 1000000) × IsBelowTop p
-IsSettled n d (Over c needed) = (u : ℕ) × (u < n) × ((d (Some u)).cause ≡ c) × (needed + (d None).value ≡ (d (Some u)).value) × (1000000 < needed)
+abbrev pub IsSettled : ℕ → ℕ → (Option ℕ → Reached) → Settled → Type 0
+IsSettled n limit d (Within p) = ((u : ℕ) → u < n → value_at p (Some u) + (d None).value ≡ value_at p None + (d (Some u)).value)
+    × ((u : ℕ) → value_at p None ≤ value_at p (Some u)) × ((u : ℕ) → value_at p (Some u) ≤ value_at p None + limit) × IsBelowTop p
+IsSettled n limit d (Over c needed) = (u : ℕ) × (u < n) × ((d (Some u)).cause ≡ c) × (needed + (d None).value ≡ (d (Some u)).value) × (limit < needed)

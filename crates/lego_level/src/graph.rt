@@ -101,6 +101,7 @@ fn add_all(alloc: Global, solver: &mut Solver, more: &[Constraint]) -> Result<()
     ensures longer { length solver.old ≤ length solver.new }
 {
     for constraint in more {
+        solver.narrow(alloc);
         solver.insert(alloc, *constraint)?;
     }
     let Ok(over) = solver.settle(alloc) else {

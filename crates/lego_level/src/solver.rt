@@ -38,6 +38,11 @@ impl From<AllocError> for InsertFault {
 /// The greatest least value that a variable may have.
 pub const MAX_VALUE: u64 = 1_000_000;
 
+/// How far the values of a potential may lie apart before a constraint is added. They start at
+/// 2^62, and one constraint moves them by little more than this, so they stay between 2^60 and
+/// 2^63.
+const WIDE: u64 = 1 << 60;
+
 /// Constraints that can be satisfied, and a potential that satisfies them.
 #[derive(Drop)]
 pub struct Solver {
@@ -137,12 +142,29 @@ impl Solver {
             return Ok(None);
         }
         let draft = lowest(alloc, &self.edges, &self.potential, count)?;
-        match lay_out(alloc, &draft, count)? {
+        match lay_out(alloc, &draft, count, MAX_VALUE)? {
             Settled::Within(potential) => {
                 self.potential = potential;
                 Ok(None)
             }
             Settled::Over(constraint, needed) => Ok(Some((constraint, needed))),
+        }
+    }
+
+    /// Takes the least values for the potential where it has come to be so wide that a further
+    /// constraint might lead out of 64 bits. Where memory runs out, nothing is done.
+    pub fn narrow(&mut self, alloc: Global)
+        ensures { self.new ≡ self.old }
+    {
+        if self.potential.top - self.potential.zero <= WIDE {
+            return;
+        }
+        let count = self.edges.count();
+        let Ok(draft) = lowest(alloc, &self.edges, &self.potential, count) else {
+            return;
+        };
+        if let Ok(Settled::Within(potential)) = lay_out(alloc, &draft, count, WIDE) {
+            self.potential = potential;
         }
     }
 }
@@ -161,7 +183,7 @@ fn values_of(alloc: Global, draft: &Draft, count: u32) -> Result<Vec<u64>, Alloc
     Ok(values)
 }
 
-/// Least values as a potential, or one of them that is over the limit and what forces it.
+/// Least values as a potential, or one of them that is over a limit and what forces it.
 #[derive(Drop)]
 pub enum Settled {
     Within(Potential),
@@ -169,16 +191,17 @@ pub enum Settled {
 }
 
 /// Lays least values out as a potential, in which the zero node has the value `START`.
-fn lay_out(alloc: Global, draft: &Draft, count: u32) -> Result<Settled, AllocError>
-    requires { (u : ℕ) → u < count → (reached_at draft.now None).value ≤ (reached_at draft.now (Some u)).value }
-    ensures { IfOk result (IsSettled count (reached_at draft.now)) }
+fn lay_out(alloc: Global, draft: &Draft, count: u32, limit: u64) -> Result<Settled, AllocError>
+    requires limit { limit ≤ 1152921504606846976 }
+    requires above { (u : ℕ) → u < count → (reached_at draft.now None).value ≤ (reached_at draft.now (Some u)).value }
+    ensures { IfOk result (IsSettled count limit (reached_at draft.now)) }
 {
     let base = draft.get(None).value;
     let mut settled = Potential::new(alloc);
     for variable in 0..count {
         let reached = draft.get(Some(variable));
         let value = reached.value - base;
-        if value > MAX_VALUE {
+        if value > limit {
             return Ok(Settled::Over(reached.cause, value));
         }
         settled.reserve(Some(variable))?;
