@@ -9,7 +9,10 @@ fi
 echo "| workload | counts | milliseconds |"
 echo "|---|---|---|"
 for pair in "share 19" "equal 19" "lift 19" "subst 19" "unfold 50000" "loop 100000" \
-    "exp 8" "exp 9" "exp 10"; do
+    "exp 8" "exp 9" "exp 10" \
+    "chain 25000" "chain 50000" "chain 100000" "back 25000" "back 50000" "back 100000" \
+    "mixed 25000" "mixed 50000" "mixed 100000" "layers 25" "layers 50" "layers 100" \
+    "cycles 25000" "cycles 50000" "cycles 100000" "again 25000" "again 50000" "again 100000"; do
     begin=$(date +%s%N)
     # the words of a pair are two arguments
     counts=$("$program" $pair)

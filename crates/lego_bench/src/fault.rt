@@ -1,3 +1,4 @@
+use lego_level::GraphFault;
 use lego_reduce::ReduceFault;
 use lego_term::TermFault;
 use std::alloc::AllocError;
@@ -11,6 +12,8 @@ pub enum BenchFault {
     Term(TermFault),
     /// A term could not be reduced.
     Reduce(ReduceFault),
+    /// Constraints were refused that can be satisfied.
+    Refused,
     /// The counts could not be written.
     Write,
     /// Memory ran out.
@@ -26,6 +29,12 @@ impl From<TermFault> for BenchFault {
 impl From<ReduceFault> for BenchFault {
     fn from(fault: ReduceFault) -> BenchFault {
         BenchFault::Reduce(fault)
+    }
+}
+
+impl From<GraphFault> for BenchFault {
+    fn from(_: GraphFault) -> BenchFault {
+        BenchFault::Refused
     }
 }
 

@@ -1,15 +1,16 @@
-//! Runs workloads of terms and of reduction, each named by a word and sized by the next
+//! Runs workloads of terms, of reduction and of levels, each named by a word and sized by the next
 //! word, and prints what each came to.
 #![tactic(auto)]
 
 mod fault;
+mod levels;
 mod workload;
 
 use fault::BenchFault;
 use std::alloc::{AllocGlobal, Global};
 use std::env;
 use std::env::Env;
-use workload::{Counts, run_workload};
+use workload::{Outcome, run_workload};
 
 fn main(rt: HostRuntime) -> Result<(), BenchFault> {
     let mut waiting: Option<String> = None;
@@ -18,11 +19,22 @@ fn main(rt: HostRuntime) -> Result<(), BenchFault> {
             waiting = Some(word);
             continue;
         };
-        let counts = sized(rt.alloc(), name.as_str(), word.as_str())?;
-        let (nodes, depth, steps) = (counts.nodes, counts.depth, counts.steps);
+        let outcome = sized(rt.alloc(), name.as_str(), word.as_str())?;
         let name = name.as_str();
         let size = word.as_str();
-        if println!(rt; "{name} {size}: {nodes} nodes, {depth} deep, {steps} steps").is_err() {
+        let printed = match outcome {
+            Outcome::Terms(counts) => {
+                let (nodes, depth, steps) = (counts.nodes, counts.depth, counts.steps);
+                println!(rt; "{name} {size}: {nodes} nodes, {depth} deep, {steps} steps")
+            }
+            Outcome::Levels(held) => {
+                let (count, value, refused) = (held.constraints, held.value, held.refused);
+                println!(rt;
+                    "{name} {size}: {count} constraints, {value} at most, {refused} refused"
+                )
+            }
+        };
+        if printed.is_err() {
             return Err(BenchFault::Write);
         }
     }
@@ -30,7 +42,7 @@ fn main(rt: HostRuntime) -> Result<(), BenchFault> {
 }
 
 /// Runs the workload of this name and written size.
-fn sized(alloc: Global, name: &str, size: &str) -> Result<Counts, BenchFault> {
+fn sized(alloc: Global, name: &str, size: &str) -> Result<Outcome, BenchFault> {
     let Ok(size) = size.parse::<u32>() else {
         return Err(BenchFault::Usage);
     };

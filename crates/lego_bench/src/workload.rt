@@ -3,6 +3,7 @@ ghost use Rattle.std.specs.Prelude.{IfOk};
 ghost use Rattle.lego_term.specs.BodyMap.{AreClosed};
 
 use crate::fault::BenchFault;
+use crate::levels::{Held, run_levels};
 use lego_reduce::{ReduceFault, head, normal};
 use lego_term::{
     Binder, Bodies, Mark, Term, TermFault, app, equal, konst, lam, lift, prop, subst, var,
@@ -17,7 +18,7 @@ const PLAIN: Binder = Binder {
     mark: Mark::Plain,
 };
 
-/// What a workload came to: the size and depth of its last term, and a number of steps.
+/// What a workload of terms came to: the size and depth of its last term, and a number of steps.
 #[derive(Debug, Clone, Copy, PartialEq, Eq, Drop)]
 pub struct Counts {
     pub nodes: u64,
@@ -25,8 +26,24 @@ pub struct Counts {
     pub steps: u64,
 }
 
+/// What a workload came to.
+#[derive(Debug, Clone, Copy, PartialEq, Eq, Drop)]
+pub enum Outcome {
+    Terms(Counts),
+    Levels(Held),
+}
+
 /// Runs the workload of this name.
-pub fn run_workload(alloc: Global, name: &str, size: u32) -> Result<Counts, BenchFault> {
+pub fn run_workload(alloc: Global, name: &str, size: u32) -> Result<Outcome, BenchFault> {
+    match name {
+        "chain" | "back" | "mixed" | "layers" | "cycles" | "again" => {
+            Ok(Outcome::Levels(run_levels(alloc, name, size)?))
+        }
+        _ => Ok(Outcome::Terms(run_terms(alloc, name, size)?)),
+    }
+}
+
+fn run_terms(alloc: Global, name: &str, size: u32) -> Result<Counts, BenchFault> {
     match name {
         "share" => share(alloc, size),
         "equal" => compare(alloc, size),

@@ -1,88 +1,92 @@
--- How often the loop over waiting variables can turn.
-use Rattle.std.proofs.Common.{◌≡◌, ℕ, suc, zero, nat_eq, ◌+◌, ◌*◌, ◌<◌, ◌≤◌, ◌⊎◌, Bool, true, false, cond, Option, Some, None, List, [], ◌∷◌, length, Contains, refl, sym, ap, ◌∙◌, inl, inr, ⊎_elim, arith, subst}
+-- How often a search can go on.
+use Rattle.std.proofs.Common.{◌≡◌, ℕ, suc, zero, ◌+◌, ◌*◌, ◌<◌, ◌≤◌, Bool, true, false, Option, Some, None, List, [], ◌∷◌, length, Contains, refl, sym, ap, ◌∙◌, ⊎_elim, arith, subst}
 use Rattle.std.proofs.lemmas.Bool.{cases_eq}
-use Rattle.std.proofs.lemmas.Bool.Decides.{nat_tests}
 use Rattle.lego_level.specs.declared.constraint.Constraint.{Constraint}
-use Rattle.lego_level.specs.Leaving.{is_variable, leaving}
+use Rattle.lego_level.specs.declared.direction.Direction.{Direction}
+use Rattle.lego_level.specs.declared.direction.Direction.TheVariants.{Up, Down}
+use Rattle.lego_level.specs.declared.search.Task.{Task}
+use Rattle.lego_level.specs.declared.search.Search.{Search}
+use Rattle.lego_level.specs.Graphs.{implied, IsVariableBelow}
+use Rattle.lego_level.specs.Incidence.{far_of}
+use Rattle.lego_level.specs.Measures.{miss, unseen_below, unseen, above, ceiling, nodes_below, width, measure}
+use Rattle.lego_level.specs.Searches.{reached_at, IsScanned, IsEdge, Searches, SameDone}
 use Rattle.lego_level.proofs.MemberLemmas.{contains_none, contains_cases, contains_head, contains_tail}
 
-abbrev pub miss : Bool → ℕ
-miss true = 0
-miss false = 1
+above_some : (base : Option ℕ) (u : ℕ) → base ≡ Some u → above base ≡ u + 1
+above_some base u e = ap above e
 
--- how many of the first n numbers fail a test
-abbrev pub unseen_below : (ℕ → Bool) → ℕ → ℕ
-unseen_below p zero = 0
-unseen_below p (suc n) = miss (p n) + unseen_below p n
+pub low_below : (cs : List Constraint) (c : Constraint) (u : ℕ) → Contains cs c → c.low.base ≡ Some u → u < ceiling cs
+low_below [] c u h e = absurd (contains_none c h)
+low_below (x ∷ cs) c u h e = ⊎_elim {C = u < ceiling (x ∷ cs)}
+    (λ k. let a : above x.low.base ≡ u + 1 = ap (λ (z : Constraint). above z.low.base) (sym k) ∙ above_some c.low.base u e in omega (arith, a))
+    (λ k. let r = low_below cs c u k e in omega (arith, r)) (contains_cases x cs c h)
 
-abbrev pub above : Option ℕ → ℕ
-above None = 0
-above (Some u) = u + 1
+pub high_below : (cs : List Constraint) (c : Constraint) (u : ℕ) → Contains cs c → c.high.base ≡ Some u → u < ceiling cs
+high_below [] c u h e = absurd (contains_none c h)
+high_below (x ∷ cs) c u h e = ⊎_elim {C = u < ceiling (x ∷ cs)}
+    (λ k. let a : above x.high.base ≡ u + 1 = ap (λ (z : Constraint). above z.high.base) (sym k) ∙ above_some c.high.base u e in omega (arith, a))
+    (λ k. let r = high_below cs c u k e in omega (arith, r)) (contains_cases x cs c h)
 
--- above each variable to which a constraint comes
-abbrev pub ceiling : List Constraint → ℕ
-ceiling [] = 0
-ceiling (c ∷ cs) = above c.high.base + ceiling cs
+pub far_below : (way : Direction) (cs : List Constraint) (c : Constraint) (u : ℕ) → Contains cs c → far_of way c ≡ Some u → u < ceiling cs
+far_below Up cs c u h e = high_below cs c u h e
+far_below Down cs c u h e = low_below cs c u h e
 
-pub below_ceiling : (cs : List Constraint) (c : Constraint) (u : ℕ) → Contains cs c → c.high.base ≡ Some u → u < ceiling cs
-below_ceiling [] c u h e = absurd (contains_none c h)
-below_ceiling (x ∷ cs) c u h e = ⊎_elim {C = u < ceiling (x ∷ cs)}
-    (λ k. let a : above x.high.base ≡ u + 1 = ap (λ (z : Constraint). above z.high.base) (sym k) ∙ ap above e in omega (arith, a))
-    (λ k. let r = below_ceiling cs c u k e in omega (arith, r)) (contains_cases x cs c h)
+implied_below : (way : Direction) (n x u : ℕ) → IsScanned way n x → far_of way (implied x) ≡ Some u → u < n
+implied_below Up n x u s e = let k : x ≡ u = cc in omega (arith, s, k)
+implied_below Down n x u s e = absurd (cc)
 
-pub same_count : (p p' : ℕ → Bool) (n : ℕ) → ((u : ℕ) → p' u ≡ p u) → unseen_below p' n ≡ unseen_below p n
-same_count p p' zero h = refl
-same_count p p' (suc n) h = let a : miss (p' n) ≡ miss (p n) = ap miss (h n) in let r = same_count p p' n h in omega (arith, a, r)
+edge_below : (t : Task) (cs : List Constraint) (c : Constraint) (u : ℕ) → IsEdge t cs c → far_of t.direction c ≡ Some u → u < nodes_below t cs
+edge_below t cs c u edge e = ⊎_elim {C = u < nodes_below t cs}
+    (λ k. let r = far_below t.direction (t.added ∷ cs) c u (contains_tail t.added cs c k) e in omega (arith, r))
+    (λ z. let r = implied_below t.direction t.count z.0 u z.2 (ap (far_of t.direction) (sym z.1) ∙ e) in omega (arith, r)) edge
 
-same_count_below : (p p' : ℕ → Bool) (n : ℕ) → ((u : ℕ) → u < n → p' u ≡ p u) → unseen_below p' n ≡ unseen_below p n
-same_count_below p p' zero h = refl
-same_count_below p p' (suc n) h = let a : miss (p' n) ≡ miss (p n) = ap miss (h n (omega arith)) in let r = same_count_below p p' n (λ u k. h u (omega arith)) in omega (arith, a, r)
+-- a reached node is among those that count
+pub reached_below : (t : Task) (v : Option ℕ → ℕ) (cs : List Constraint) (s : Search) (w : Option ℕ) → Searches t v cs s → 0 < (reached_at s.draft w).gain → IsVariableBelow (nodes_below t cs) w
+reached_below t v cs s None z pos = tt
+reached_below t v cs s (Some u) z pos = ⊎_elim {C = u < nodes_below t cs}
+    (λ k. let r = far_below t.direction (t.added ∷ cs) t.added u (contains_head t.added cs) (sym k) in omega (arith, r))
+    (λ k. edge_below t cs (reached_at s.draft (Some u)).cause u k.edge k.far) (z.grown.reached (Some u) pos).source
 
--- one number more passes
-pub one_less : (p p' : ℕ → Bool) (n w : ℕ) → w < n → p w ≡ false → p' w ≡ true → ((u : ℕ) → (u ≡ w → ⊥) → p' u ≡ p u) → unseen_below p' n + 1 ≡ unseen_below p n
-one_less p p' zero w below was now other = absurd (omega arith)
-one_less p p' (suc n) w below was now other = ⊎_elim {C = unseen_below p' (suc n) + 1 ≡ unseen_below p (suc n)}
-    (λ k. let a : miss (p' n) ≡ 0 = ap miss (subst (λ z. p' z ≡ true) (sym k) now) in
-    let b : miss (p n) ≡ 1 = ap miss (subst (λ z. p z ≡ false) (sym k) was) in
-    let r = same_count_below p p' n (λ u h. other u (λ e. absurd (omega (arith, e, k)))) in omega (arith, a, b, r))
-    (λ k. let a : miss (p' n) ≡ miss (p n) = ap miss (other n k) in
-    let r = one_less p p' n w (omega arith) was now other in omega (arith, a, r)) (cases_eq n w)
+same_below : (p p' : Option ℕ → Bool) (n : ℕ) → ((u : ℕ) → u < n → p' (Some u) ≡ p (Some u)) → unseen_below p' n ≡ unseen_below p n
+same_below p p' zero h = refl
+same_below p p' (suc n) h = let a : miss (p' (Some n)) ≡ miss (p (Some n)) = ap miss (h n (omega arith)) in let r = same_below p p' n (λ u k. h u (omega arith)) in omega (arith, a, r)
 
--- the measure falls
-pub measure_falls : (a b m q q' x : ℕ) → b + 1 ≡ a → q' ≤ x + m → x + 1 ≡ q → b * (m + 1) + q' < a * (m + 1) + q
-measure_falls a b m q q' x h k l = let t : a * (m + 1) ≡ b * (m + 1) + (m + 1) = rw (sym h) (grind arith) in omega (arith, t, k, l)
+pub same_unseen : (p p' : Option ℕ → Bool) (n : ℕ) → ((u : Option ℕ) → p' u ≡ p u) → unseen p' n ≡ unseen p n
+same_unseen p p' n h = let a : miss (p' None) ≡ miss (p None) = ap miss (h None) in let r = same_below p p' n (λ u k. h (Some u)) in omega (arith, a, r)
 
-variable_is : (u : ℕ) (base : Option ℕ) → is_variable u base ≡ true → base ≡ Some u
-variable_is u None h = absurd (cc)
-variable_is u (Some w) h = let e : w ≡ u = grind (arith, nat_tests) in ap Some e
+some_same : (a b : ℕ) → Some a ≡ Some b → a ≡ b
+some_same a b e = cc
 
-is_the_variable : (u : ℕ) (base : Option ℕ) → base ≡ Some u → is_variable u base ≡ true
-is_the_variable u base h = let t : nat_eq u u ≡ true = grind (arith, nat_tests) in ap (is_variable u) h ∙ t
+less_below : (p p' : Option ℕ → Bool) (n w : ℕ) → w < n → p (Some w) ≡ false → p' (Some w) ≡ true → ((u : Option ℕ) → (u ≡ Some w → ⊥) → p' u ≡ p u) → unseen_below p' n + 1 ≡ unseen_below p n
+less_below p p' zero w below was now other = absurd (omega arith)
+less_below p p' (suc n) w below was now other = ⊎_elim {C = unseen_below p' (suc n) + 1 ≡ unseen_below p (suc n)}
+    (λ k. let a : miss (p' (Some n)) ≡ 0 = ap miss (subst (λ z. p' (Some z) ≡ true) (sym k) now) in
+    let b : miss (p (Some n)) ≡ 1 = ap miss (subst (λ z. p (Some z) ≡ false) (sym k) was) in
+    let r = same_below p p' n (λ u h. other (Some u) (λ e. let l = some_same u w e in absurd (omega (arith, l, h, k)))) in omega (arith, a, b, r))
+    (λ k. let a : miss (p' (Some n)) ≡ miss (p (Some n)) = ap miss (other (Some n) (λ e. k (some_same n w e))) in
+    let r = less_below p p' n w (omega arith) was now other in omega (arith, a, r)) (cases_eq n w)
 
-bool_split : (b : Bool) → (b ≡ true) ⊎ (b ≡ false)
-bool_split true = inl refl
-bool_split false = inr refl
+-- one node more passes
+pub less_unseen : (p p' : Option ℕ → Bool) (n : ℕ) (w : Option ℕ) → IsVariableBelow n w → p w ≡ false → p' w ≡ true → ((u : Option ℕ) → (u ≡ w → ⊥) → p' u ≡ p u) → unseen p' n + 1 ≡ unseen p n
+less_unseen p p' n None below was now other =
+    let a : miss (p' None) ≡ 0 = ap miss now in let b : miss (p None) ≡ 1 = ap miss was in let r = same_below p p' n (λ u h. other (Some u) (λ e. absurd (cc))) in omega (arith, a, b, r)
+less_unseen p p' n (Some w) below was now other =
+    let a : miss (p' None) ≡ miss (p None) = ap miss (other None (λ e. absurd (cc))) in let r = less_below p p' n w below was now other in omega (arith, a, r)
 
-pub leaving_member : (cs : List Constraint) (u : ℕ) (c : Constraint) → Contains (leaving u cs) c → Contains cs c × (c.low.base ≡ Some u)
-leaving_member [] u c h = absurd (contains_none c h)
-leaving_member (x ∷ cs) u c h = ⊎_elim {C = Contains (x ∷ cs) c × (c.low.base ≡ Some u)}
-    (λ t. let h' : Contains (x ∷ leaving u cs) c = subst (λ b. Contains (cond b (x ∷ leaving u cs) (leaving u cs)) c) t h in
-    ⊎_elim {C = Contains (x ∷ cs) c × (c.low.base ≡ Some u)}
-    (λ e. (subst (λ z. Contains (x ∷ cs) z) (sym e) (contains_head x cs), ap (λ (z : Constraint). z.low.base) e ∙ variable_is u x.low.base t))
-    (λ k. let r = leaving_member cs u c k in (contains_tail x cs c r.0, r.1)) (contains_cases x (leaving u cs) c h'))
-    (λ t. let h' : Contains (leaving u cs) c = subst (λ b. Contains (cond b (x ∷ leaving u cs) (leaving u cs)) c) t h in
-    let r = leaving_member cs u c h' in (contains_tail x cs c r.0, r.1)) (bool_split (is_variable u x.low.base))
+product_falls : (a b m q q' x : ℕ) → b + 1 ≡ a → q' < x + m → x + 1 ≡ q → b * m + q' < a * m + q
+product_falls a b m q q' x h k l = let t : a * m ≡ b * m + m = rw (sym h) (grind arith) in omega (arith, t, k, l)
 
-pub member_leaving : (cs : List Constraint) (u : ℕ) (c : Constraint) → Contains cs c → c.low.base ≡ Some u → Contains (leaving u cs) c
-member_leaving [] u c h e = absurd (contains_none c h)
-member_leaving (x ∷ cs) u c h e = ⊎_elim {C = Contains (leaving u (x ∷ cs)) c}
-    (λ t. subst (λ b. Contains (cond b (x ∷ leaving u cs) (leaving u cs)) c) (sym t)
-    (⊎_elim {C = Contains (x ∷ leaving u cs) c} (λ k. subst (λ z. Contains (x ∷ leaving u cs) z) (sym k) (contains_head x (leaving u cs))) (λ k. contains_tail x (leaving u cs) c (member_leaving cs u c k e)) (contains_cases x cs c h)))
-    (λ t. subst (λ b. Contains (cond b (x ∷ leaving u cs) (leaving u cs)) c) (sym t)
-    (⊎_elim {C = Contains (leaving u cs) c} (λ k. absurd (let y : is_variable u x.low.base ≡ true = is_the_variable u x.low.base (ap (λ (z : Constraint). z.low.base) (sym k) ∙ e) in let z : true ≡ false = sym y ∙ t in cc)) (λ k. member_leaving cs u c k e) (contains_cases x cs c h))) (bool_split (is_variable u x.low.base))
+pub falls_skip : (t : Task) (cs : List Constraint) (s n : Search) → n.draft ≡ s.draft → length n.queue + 1 ≡ length s.queue → measure t cs n < measure t cs s
+unfolding measure
+falls_skip t cs s n same len =
+    let k : unseen (λ u. (reached_at n.draft u).done) (nodes_below t cs) * width t cs ≡ unseen (λ u. (reached_at s.draft u).done) (nodes_below t cs) * width t cs = ap (λ d. unseen (λ u. (reached_at d u).done) (nodes_below t cs) * width t cs) same in omega (arith, k, len)
 
-pub length_leaving : (cs : List Constraint) (u : ℕ) → length (leaving u cs) ≤ length cs
-length_leaving [] u = omega arith
-length_leaving (x ∷ cs) u = let r = length_leaving cs u in ⊎_elim {C = length (leaving u (x ∷ cs)) ≤ length (x ∷ cs)}
-    (λ t. let k : length (leaving u (x ∷ cs)) ≡ length (x ∷ leaving u cs) = ap (λ b. length (cond b (x ∷ leaving u cs) (leaving u cs))) t in omega (arith, k, r))
-    (λ t. let k : length (leaving u (x ∷ cs)) ≡ length (leaving u cs) = ap (λ b. length (cond b (x ∷ leaving u cs) (leaving u cs))) t in omega (arith, k, r)) (bool_split (is_variable u x.low.base))
+pub falls_visit : (t : Task) (cs : List Constraint) (s m n : Search) (w : Option ℕ) → IsVariableBelow (nodes_below t cs) w → (reached_at s.draft w).done ≡ false → (reached_at m.draft w).done ≡ true
+    → ((u : Option ℕ) → (u ≡ w → ⊥) → (reached_at m.draft u).done ≡ (reached_at s.draft u).done) → SameDone m n
+    → length n.queue ≤ length m.queue + length cs + t.count + 1 → length m.queue + 1 ≡ length s.queue → measure t cs n < measure t cs s
+unfolding measure
+falls_visit t cs s m n w below was now other same len popped =
+    let p : Option ℕ → Bool = λ u. (reached_at s.draft u).done in let p' : Option ℕ → Bool = λ u. (reached_at m.draft u).done in let p'' : Option ℕ → Bool = λ u. (reached_at n.draft u).done in
+    let less = less_unseen p p' (nodes_below t cs) w below was now other in
+    let eq = same_unseen p' p'' (nodes_below t cs) same in
+    product_falls (unseen p (nodes_below t cs)) (unseen p'' (nodes_below t cs)) (width t cs) (length s.queue) (length n.queue) (length m.queue) (omega (arith, less, eq)) (omega (arith, len)) popped

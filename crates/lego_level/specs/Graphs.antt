@@ -64,10 +64,6 @@ pub record Forces (cs : List Constraint) (c : Constraint) (needed : ℕ) : Type 
   pub value : get_or values variable 0 ≡ needed
   pub over : 1000000 < needed
 
--- each assignment that satisfies the constraints gives the variable a value over 1,000,000
-abbrev pub Exceeds : List Constraint → ℕ → Type 0
-Exceeds cs u = (v : Assignment) → SatisfiesAll v (pairs_of cs) → 1000000 < get_or v u 0
-
 abbrev pub IsVariableBelow : ℕ → Option ℕ → Type 0
 IsVariableBelow n None = Unit {0}
 IsVariableBelow n (Some u) = u < n

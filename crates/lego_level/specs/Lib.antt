@@ -1,6 +1,11 @@
+pub mod Adjacency
 pub mod Faults
 pub mod Graphs
-pub mod Leaving
-pub mod Bounds
+pub mod Incidence
+pub mod Lowest
+pub mod Measures
+pub mod Outcomes
+pub mod Potentials
 pub mod Refusals
-pub mod Rising
+pub mod Searches
+pub mod Steps

@@ -1,19 +1,22 @@
-//! A list of constraints, with those that leave each variable at hand.
-ghost use Rattle.std.specs.Prelude.{◌≡◌, ◌<◌, ◌++◌, ℕ, List, [], ◌∷◌, length, get_or, IfSome, IfNone, OnOk, OnErr};
+//! A list of constraints, with those that leave each node and those that come to it at hand.
+ghost use Rattle.std.specs.Prelude.{◌≡◌, ◌<◌, ◌++◌, ℕ, List, [], ◌∷◌, ◌≤◌, length, get_or, IfOk, OnOk, OnErr, Option};
 ghost use Rattle.lego_level.specs.declared.constraint.Constraint.{Constraint};
-ghost use Rattle.lego_level.specs.Leaving.{leaving};
+ghost use Rattle.lego_level.specs.Graphs.{HasVariablesBelow, IsVariableBelow};
+ghost use Rattle.lego_level.specs.Incidence.{incident};
+ghost use Rattle.lego_level.specs.Adjacency.{adjacent_at};
 
 use crate::constraint::Constraint;
+use crate::direction::Direction;
 use std::alloc::{AllocError, Global};
 use std::marker::Model;
 
-/// Constraints that leave one variable, in the order in which they were added.
+/// Constraints at one node, in the order in which they were added.
 #[derive(Drop)]
-pub struct Leaving {
+pub struct Adjacent {
     items: Vec<Constraint>,
 }
 
-impl Model for Leaving {
+impl Model for Adjacent {
     ghost use Rattle.std.specs.Prelude.{List};
     ghost use Rattle.lego_level.specs.declared.constraint.Constraint.{Constraint};
 
@@ -22,11 +25,11 @@ impl Model for Leaving {
     ghost view = { λ l. l.items.items };
 }
 
-impl Leaving {
-    fn new(alloc: Global) -> Leaving
+impl Adjacent {
+    fn new(alloc: Global) -> Adjacent
         ensures { result ≡ [] }
     {
-        Leaving {
+        Adjacent {
             items: Vec::new(alloc),
         }
     }
@@ -40,8 +43,7 @@ impl Leaving {
     }
 
     fn pop(&mut self)
-        ensures none { self.old ≡ [] → self.new ≡ [] }
-        ensures some { (cs : List Constraint) (c : Constraint) → self.old ≡ cs ++ c ∷ [] → self.new ≡ cs }
+        ensures { (cs : List Constraint) (c : Constraint) → self.old ≡ cs ++ c ∷ [] → self.new ≡ cs }
     {
         let _ = self.items.pop();
     }
@@ -53,23 +55,104 @@ impl Leaving {
     }
 }
 
-/// The constraints, and by variable those that leave it.
+/// The constraints at each node: at the zero node, and at each variable.
+#[derive(Drop)]
+pub struct Adjacency {
+    zero: Adjacent,
+    variables: Vec<Adjacent>,
+}
+
+impl Adjacency {
+    fn new(alloc: Global) -> Adjacency
+        ensures { (u : Option ℕ) → adjacent_at result u ≡ [] }
+    {
+        Adjacency {
+            zero: Adjacent::new(alloc),
+            variables: Vec::new(alloc),
+        }
+    }
+
+    fn at(&self, node: Option<u32>) -> &[Constraint]
+        ensures { result.now ≡ adjacent_at self.now node }
+    {
+        let Some(variable) = node else {
+            return self.zero.items();
+        };
+        match self.variables.get(variable as usize) {
+            Some(adjacent) => adjacent.items(),
+            None => &[],
+        }
+    }
+
+    /// Adds a constraint at a node.
+    fn push(
+        &mut self,
+        alloc: Global,
+        node: Option<u32>,
+        constraint: Constraint,
+    ) -> Result<(), AllocError>
+        ensures at { OnOk result (adjacent_at self.new node ≡ adjacent_at self.old node ++ constraint ∷ []) }
+        ensures other { OnOk result ((u : Option ℕ) → (u ≡ node → ⊥) → adjacent_at self.new u ≡ adjacent_at self.old u) }
+        ensures err { OnErr result ((u : Option ℕ) → adjacent_at self.new u ≡ adjacent_at self.old u) }
+    {
+        let Some(variable) = node else {
+            return self.zero.push(constraint);
+        };
+        grow(alloc, &mut self.variables, variable as usize)?;
+        self.variables[variable as usize].push(constraint)
+    }
+
+    /// Takes the last constraint at a node away.
+    fn pop(&mut self, node: Option<u32>)
+        ensures at { (cs : List Constraint) (c : Constraint) → adjacent_at self.old node ≡ cs ++ c ∷ [] → adjacent_at self.new node ≡ cs }
+        ensures other { (u : Option ℕ) → (u ≡ node → ⊥) → adjacent_at self.new u ≡ adjacent_at self.old u }
+    {
+        match node {
+            None => self.zero.pop(),
+            Some(variable) => {
+                if (variable as usize) < self.variables.len() {
+                    self.variables[variable as usize].pop();
+                }
+            }
+        }
+    }
+}
+
+/// Makes room for the constraints at a variable.
+fn grow(alloc: Global, variables: &mut Vec<Adjacent>, variable: usize) -> Result<(), AllocError>
+    ensures room { OnOk result (variable < length variables.new.items) }
+    ensures same { (u : ℕ) → get_or variables.new.items u [] ≡ get_or variables.old.items u [] }
+{
+    while variables.len() <= variable {
+        variables.push(Adjacent::new(alloc))?;
+    }
+    Ok(())
+}
+
+/// The constraints, those that leave each node, and those that come to it. The count is above
+/// each variable.
 #[derive(Drop)]
 pub struct Edges {
     all: Vec<Constraint>,
-    out: Vec<Leaving>,
+    leaving: Adjacency,
+    arriving: Adjacency,
+    count: u32,
 }
 
 impl Model for Edges {
-    ghost use Rattle.std.specs.Prelude.{◌≡◌, ℕ, List, [], get_or};
+    ghost use Rattle.std.specs.Prelude.{◌≡◌, ℕ, List, Option};
     ghost use Rattle.lego_level.specs.declared.constraint.Constraint.{Constraint};
-    ghost use Rattle.lego_level.specs.Leaving.{leaving};
+    ghost use Rattle.lego_level.specs.declared.direction.Direction.TheVariants.{Up, Down};
+    ghost use Rattle.lego_level.specs.Graphs.{HasVariablesBelow};
+    ghost use Rattle.lego_level.specs.Incidence.{incident};
+    ghost use Rattle.lego_level.specs.Adjacency.{adjacent_at};
 
     ghost Value = { List Constraint };
 
     ghost view = { λ e. e.all.items };
 
-    ghost invariant = { λ e. (u : ℕ) → get_or e.out.items u [] ≡ leaving u e.all.items };
+    ghost invariant = { λ e. ((u : Option ℕ) → adjacent_at e.leaving u ≡ incident Up u e.all.items)
+        × ((u : Option ℕ) → adjacent_at e.arriving u ≡ incident Down u e.all.items) × HasVariablesBelow e.count e.all.items };
 }
 
 impl Edges {
@@ -78,7 +161,9 @@ impl Edges {
     {
         Edges {
             all: Vec::new(alloc),
-            out: Vec::new(alloc),
+            leaving: Adjacency::new(alloc),
+            arriving: Adjacency::new(alloc),
+            count: 0,
         }
     }
 
@@ -88,13 +173,20 @@ impl Edges {
         self.all.as_slice()
     }
 
-    /// The constraints that leave a variable.
-    pub fn leaving(&self, variable: u32) -> &[Constraint]
-        ensures { result.now ≡ leaving variable self.now }
+    /// A number above each variable.
+    pub fn count(&self) -> u32
+        ensures { HasVariablesBelow result self.now }
     {
-        match self.out.get(variable as usize) {
-            Some(leaving) => leaving.items(),
-            None => &[],
+        self.count
+    }
+
+    /// The constraints along which a search goes from a node.
+    pub fn incident(&self, direction: Direction, node: Option<u32>) -> &[Constraint]
+        ensures { result.now ≡ incident direction node self.now }
+    {
+        match direction {
+            Direction::Up => self.leaving.at(node),
+            Direction::Down => self.arriving.at(node),
         }
     }
 
@@ -103,42 +195,41 @@ impl Edges {
         ensures ok { OnOk result (self.new ≡ self.old ++ constraint ∷ []) }
         ensures err { OnErr result (self.new ≡ self.old) }
     {
-        if let Some(from) = constraint.low.base {
-            grow(alloc, &mut self.out, from as usize)?;
-            self.all.push(constraint)?;
-            let pushed = self.out[from as usize].push(constraint);
-            if pushed.is_err() {
-                let _ = self.all.pop();
-            }
-            pushed
-        } else {
-            self.all.push(constraint)?;
-            Ok(())
+        let (low, high) = (constraint.low.base, constraint.high.base);
+        let count = count_with(count_with(self.count, low)?, high)?;
+        self.leaving.push(alloc, low, constraint)?;
+        if self.arriving.push(alloc, high, constraint).is_err() {
+            self.leaving.pop(low);
+            return Err(AllocError);
         }
+        if self.all.push(constraint).is_err() {
+            self.arriving.pop(high);
+            self.leaving.pop(low);
+            return Err(AllocError);
+        }
+        self.count = count;
+        Ok(())
     }
 
     /// Takes the last constraint away.
-    pub fn pop(&mut self) -> Option<Constraint>
-        ensures none { IfNone result ((self.old ≡ []) × (self.new ≡ [])) }
-        ensures some { IfSome result (λ c. self.old ≡ self.new ++ c ∷ []) }
+    pub fn pop(&mut self)
+        ensures none { self.old ≡ [] → self.new ≡ [] }
+        ensures some { (cs : List Constraint) (c : Constraint) → self.old ≡ cs ++ c ∷ [] → self.new ≡ cs }
     {
-        let last = self.all.pop()?;
-        if let Some(from) = last.low.base
-            && (from as usize) < self.out.len()
-        {
-            self.out[from as usize].pop();
+        if let Some(last) = self.all.pop() {
+            self.leaving.pop(last.low.base);
+            self.arriving.pop(last.high.base);
         }
-        Some(last)
     }
 }
 
-/// Makes room for the constraints that leave a variable.
-fn grow(alloc: Global, out: &mut Vec<Leaving>, variable: usize) -> Result<(), AllocError>
-    ensures room { OnOk result (variable < length out.new.items) }
-    ensures same { (u : ℕ) → get_or out.new.items u [] ≡ get_or out.old.items u [] }
+/// The count, or a number above a node's variable if that is greater.
+fn count_with(count: u32, node: Option<u32>) -> Result<u32, AllocError>
+    ensures more { IfOk result (λ n. count ≤ n) }
+    ensures above { IfOk result (λ n. IsVariableBelow n node) }
 {
-    while out.len() <= variable {
-        out.push(Leaving::new(alloc))?;
+    match node {
+        None => Ok(count),
+        Some(variable) => Ok(count.max(variable.checked_add(1).ok_or(AllocError)?)),
     }
-    Ok(())
 }

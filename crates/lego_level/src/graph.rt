@@ -1,5 +1,5 @@
 //! The graph of constraints.
-ghost use Rattle.std.specs.Prelude.{◌≡◌, ◌≤◌, ◌<◌, ◌++◌, [], ℕ, length, take, IfOk, IfErr, OnOk, OnErr};
+ghost use Rattle.std.specs.Prelude.{◌≡◌, ◌≤◌, ◌<◌, ◌++◌, [], length, take, IfOk, IfErr, OnOk, OnErr};
 ghost use Rattle.lego_level.specs.Graphs.{CanBeSatisfiedWithin, HasVariablesBelow, IsLeast};
 ghost use Rattle.lego_level.specs.Refusals.{IsGraphFault};
 
@@ -10,8 +10,8 @@ use std::alloc::{AllocError, Global};
 use std::marker::Model;
 
 /// Constraints that can be satisfied with values up to 1,000,000, which contracts see as their
-/// list. It keeps their least solution, so a further constraint only raises what must rise, and
-/// what each constraint changed, so taking the newest ones away costs what they changed.
+/// list. It keeps values that satisfy them but need not be least, so that a further constraint
+/// moves little, and that taking the newest ones away moves nothing.
 #[derive(Drop)]
 pub struct Graph {
     solver: Solver,
@@ -87,11 +87,7 @@ impl Graph {
         ensures least { IfOk result (λ values. IsLeast self.now values.items) }
         ensures len { IfOk result (λ values. length values.items ≡ count) }
     {
-        let mut values = Vec::with_capacity(alloc, count as usize)?;
-        for variable in 0..count {
-            values.push(self.solver.value(variable))?;
-        }
-        Ok(values)
+        self.solver.least(alloc, count)
     }
 }
 
@@ -104,16 +100,15 @@ fn add_all(alloc: Global, solver: &mut Solver, more: &[Constraint]) -> Result<()
     ensures before { take (length solver.old) solver.new ≡ solver.old }
     ensures longer { length solver.old ≤ length solver.new }
 {
-    let mut over = None;
     for constraint in more {
-        let found = solver.insert(alloc, *constraint)?;
-        over = found.or(over);
+        solver.narrow(alloc);
+        solver.insert(alloc, *constraint)?;
     }
+    let Ok(over) = solver.settle(alloc) else {
+        return Err(GraphFault::Memory);
+    };
     match over {
-        Some(variable) => {
-            let (constraint, needed) = solver.forced(variable);
-            Err(GraphFault::LevelTooBig { constraint, needed })
-        }
+        Some((constraint, needed)) => Err(GraphFault::LevelTooBig { constraint, needed }),
         None => Ok(()),
     }
 }

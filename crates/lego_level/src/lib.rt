@@ -1,18 +1,20 @@
-//! Constraints between universe levels, kept with their least solution
+//! Constraints between universe levels, kept with values that satisfy them
 //! (Harper and Pollack, "Type checking with universes", 1991).
 #![tactic(auto)]
 
-mod bound;
 mod constraint;
 mod cycle;
+mod direction;
 mod draft;
 mod edges;
 mod fault;
 mod graph;
+mod least;
+mod mend;
+mod potential;
 mod queue;
-mod rise;
+mod search;
 mod solver;
-mod store;
 #[cfg(test)]
 mod tests;
 

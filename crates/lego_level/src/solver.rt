@@ -1,18 +1,18 @@
-//! Constraints with their least solution, one at a time.
-ghost use Rattle.std.specs.Prelude.{◌≡◌, ◌≤◌, ◌<◌, ◌-◌, take, ◌++◌, ◌∷◌, [], ℕ, length, get_or, MatchOption, MatchResult, IfOk, IfErr, OnOk, OnErr, IsTrue, ◌↔◌};
-ghost use Rattle.lego_term.specs.Levels.{Assignment, SatisfiesAll};
-ghost use Rattle.lego_level.specs.Graphs.{pairs_of, CanBeSatisfied, CanBeSatisfiedWithin, Exceeds, Forces, IsLeast};
-ghost use Rattle.lego_level.specs.Bounds.{bounds_of, low_of, high_of};
-ghost use Rattle.lego_level.specs.Faults.{IsInsertFault, IsUnsatisfied};
-ghost use Rattle.lego_level.specs.declared.constraint.Constraint.{Constraint};
+//! Constraints with a potential that satisfies them, one at a time.
+ghost use Rattle.std.specs.Prelude.{◌≡◌, ◌+◌, ◌<◌, ◌≤◌, ◌-◌, take, ◌++◌, ◌∷◌, [], ℕ, Option, Some, None, length, get_or, MatchOption, IfOk, IfErr, OnOk, OnErr, Contains};
+ghost use Rattle.lego_level.specs.Graphs.{CanBeSatisfiedWithin, Forces, HasVariablesBelow, IsLeast};
+ghost use Rattle.lego_level.specs.Faults.{IsInsertFault};
+ghost use Rattle.lego_level.specs.Outcomes.{IsSettled};
+ghost use Rattle.lego_level.specs.Potentials.{value_at, HasRoom, IsBelowTop, IsFeasible};
+ghost use Rattle.lego_level.specs.Searches.{reached_at, moved_to, IsTouched};
 
-use crate::bound::{Bound, Change};
 use crate::constraint::Constraint;
-use crate::cycle::walk_back;
+use crate::cycle::walk;
 use crate::draft::Draft;
 use crate::edges::Edges;
-use crate::rise::{Risen, kept_at, node_at, rise_by};
-use crate::store::{changes_of, keep, restore};
+use crate::least::lowest;
+use crate::mend::{Closing, Outcome, mend};
+use crate::potential::{Potential, START};
 use lego_term::List;
 use std::alloc::{AllocError, Global};
 use std::marker::Model;
@@ -35,25 +35,31 @@ impl From<AllocError> for InsertFault {
     }
 }
 
-/// Constraints that can be satisfied, the bounds that are their least solution, and what each
-/// constraint changed.
+/// The greatest least value that a variable may have.
+pub const MAX_VALUE: u64 = 1_000_000;
+
+/// How far the values of a potential may lie apart before a constraint is added. They start at
+/// 2^62, and one constraint moves them by little more than this, so they stay between 2^60 and
+/// 2^63.
+const WIDE: u64 = 1 << 60;
+
+/// Constraints that can be satisfied, and a potential that satisfies them.
 #[derive(Drop)]
 pub struct Solver {
     edges: Edges,
-    bounds: Vec<Bound>,
-    history: Vec<List<Change>>,
+    potential: Potential,
 }
 
 impl Model for Solver {
-    ghost use Rattle.std.specs.Prelude.{List, length, reverse};
+    ghost use Rattle.std.specs.Prelude.{List};
     ghost use Rattle.lego_level.specs.declared.constraint.Constraint.{Constraint};
-    ghost use Rattle.lego_level.specs.Bounds.{bounds_of, IsKept};
+    ghost use Rattle.lego_level.specs.Potentials.{value_at, IsFeasible, IsBelowTop};
 
     ghost Value = { List Constraint };
 
     ghost view = { λ s. s.edges };
 
-    ghost invariant = { λ s. IsKept (length s.bounds.items) (bounds_of s.bounds.items) (reverse s.edges) (reverse s.history.items) };
+    ghost invariant = { λ s. IsFeasible (value_at s.potential) s.edges × IsBelowTop s.potential };
 }
 
 impl Solver {
@@ -62,8 +68,7 @@ impl Solver {
     {
         Solver {
             edges: Edges::new(alloc),
-            bounds: Vec::new(alloc),
-            history: Vec::new(alloc),
+            potential: Potential::new(alloc),
         }
     }
 
@@ -73,120 +78,170 @@ impl Solver {
         self.edges.all()
     }
 
-    /// Takes the newest constraint away, with what it changed.
+    /// Takes the newest constraint away. The potential satisfies those that are left.
     pub fn pop(&mut self)
         ensures { self.new ≡ take (length self.old - 1) self.old }
     {
-        let Some(changes) = self.history.pop() else {
-            return;
-        };
-        restore(&mut self.bounds, changes.items());
-        let _ = self.edges.pop();
+        self.edges.pop();
     }
 
-    /// Takes a constraint in. The answer is a variable whose value came to be over the limit, if
-    /// there is one. A constraint that is refused leaves all as it was.
-    pub fn insert(&mut self, alloc: Global, added: Constraint) -> Result<Option<u32>, InsertFault>
+    /// Takes a constraint in. One that is refused leaves the constraints as they were.
+    pub fn insert(&mut self, alloc: Global, added: Constraint) -> Result<(), InsertFault>
         ensures taken { OnOk result (self.new ≡ self.old ++ added ∷ []) }
-        ensures over { IfOk result (λ over. MatchOption over (CanBeSatisfiedWithin self.old → CanBeSatisfiedWithin self.new) (Exceeds self.new)) }
         ensures refused { IfErr result (IsInsertFault (self.old ++ added ∷ [])) }
         ensures unchanged { OnErr result (self.new ≡ self.old) }
     {
-        if is_satisfied(self.bounds.as_slice(), added)? {
-            let changes = List::of(Vec::new(alloc));
-            record(alloc, &mut self.edges, &mut self.history, added, changes)?;
-            return Ok(None);
+        let (low, high) = self.potential.levels(added)?;
+        if low <= high {
+            self.edges.push(alloc, added)?;
+            return Ok(());
         }
-        match added.high.base {
-            Some(head) if added.low.base != added.high.base => self.raise(alloc, added, head),
-            _ => {
-                let unraised = Draft::new(alloc);
-                let cycle = walk_back(alloc, self.bounds.as_slice(), &unraised, added)?;
+        if added.low.base == added.high.base {
+            return Err(InsertFault::Cycle(alone(alloc, added)?));
+        }
+        match mend(alloc, &self.edges, &self.potential, added, low - high)? {
+            Outcome::Mended(draft) => {
+                reserve_all(&mut self.potential, &draft)?;
+                self.edges.push(alloc, added)?;
+                keep(&mut self.potential, &draft);
+                Ok(())
+            }
+            Outcome::Closed(
+                Closing {
+                    task,
+                    draft,
+                    closing,
+                },
+            ) => {
+                let (edges, potential) = (&self.edges, &self.potential);
+                let cycle = walk(alloc, task, edges, potential, &draft, closing)?;
                 Err(InsertFault::Cycle(cycle))
             }
         }
     }
 
-    /// Takes in a constraint that is not satisfied, and comes to another variable than it leaves.
-    fn raise(
-        &mut self,
-        alloc: Global,
-        added: Constraint,
-        head: u32,
-    ) -> Result<Option<u32>, InsertFault>
-        requires head { added.high.base ≡ Some head }
-        requires apart { added.low.base ≡ Some head → ⊥ }
-        requires over { IsUnsatisfied self.old added }
-        ensures taken { OnOk result (self.new ≡ self.old ++ added ∷ []) }
-        ensures over { IfOk result (λ over. MatchOption over (CanBeSatisfiedWithin self.old → CanBeSatisfiedWithin self.new) (Exceeds self.new)) }
-        ensures refused { IfErr result (IsInsertFault (self.old ++ added ∷ [])) }
-        ensures unchanged { OnErr result (self.new ≡ self.old) }
+    /// The least values of the variables below the count, which is above each variable of a
+    /// constraint.
+    pub fn least(&self, alloc: Global, count: u32) -> Result<Vec<u64>, AllocError>
+        requires { HasVariablesBelow count self.now }
+        ensures least { IfOk result (λ values. IsLeast self.now values.items) }
+        ensures len { IfOk result (λ values. length values.items ≡ count) }
     {
-        let Risen { draft, closing } = rise_by(
-            alloc,
-            &self.edges,
-            self.bounds.as_slice(),
-            added,
-            head,
-        )?;
-        if let Some(closing) = closing {
-            let cycle = walk_back(alloc, self.bounds.as_slice(), &draft, closing)?;
-            return Err(InsertFault::Cycle(cycle));
+        let draft = lowest(alloc, &self.edges, &self.potential, count)?;
+        values_of(alloc, &draft, count)
+    }
+
+    /// Whether the values can be kept within the limit. If not, the answer is a least value over
+    /// it, and the constraint that forces it.
+    pub fn settle(&mut self, alloc: Global) -> Result<Option<(Constraint, u64)>, AllocError>
+        ensures same { self.new ≡ self.old }
+        ensures settled { IfOk result (λ r. MatchOption r (CanBeSatisfiedWithin self.old) (λ p. Forces self.old p.0 p.1)) }
+    {
+        let count = self.edges.count();
+        if self.potential.top - self.potential.zero <= MAX_VALUE {
+            return Ok(None);
         }
-        let changes = changes_of(alloc, &mut self.bounds, &draft)?;
-        record(alloc, &mut self.edges, &mut self.history, added, changes)?;
-        Ok(keep(&mut self.bounds, &draft))
+        let draft = lowest(alloc, &self.edges, &self.potential, count)?;
+        match lay_out(alloc, &draft, count, MAX_VALUE)? {
+            Settled::Within(potential) => {
+                self.potential = potential;
+                Ok(None)
+            }
+            Settled::Over(constraint, needed) => Ok(Some((constraint, needed))),
+        }
     }
 
-    /// The least value of a variable.
-    pub fn value(&self, variable: u32) -> u64
-        ensures { (v : Assignment) × IsLeast self.now v × (get_or v variable 0 ≡ result) }
+    /// Takes the least values for the potential where it has come to be so wide that a further
+    /// constraint might lead out of 64 bits. Where memory runs out, nothing is done.
+    pub fn narrow(&mut self, alloc: Global)
+        ensures { self.new ≡ self.old }
     {
-        kept_at(self.bounds.as_slice(), variable).value
-    }
-
-    /// The bound of a variable whose value is over the limit.
-    pub fn forced(&self, variable: u32) -> (Constraint, u64)
-        requires { Exceeds self.now variable }
-        ensures { Forces self.now result.0 result.1 }
-    {
-        let bound = kept_at(self.bounds.as_slice(), variable);
-        (bound.cause, bound.value)
+        if self.potential.top - self.potential.zero <= WIDE {
+            return;
+        }
+        let count = self.edges.count();
+        let Ok(draft) = lowest(alloc, &self.edges, &self.potential, count) else {
+            return;
+        };
+        if let Ok(Settled::Within(potential)) = lay_out(alloc, &draft, count, WIDE) {
+            self.potential = potential;
+        }
     }
 }
 
-/// Whether the kept bounds satisfy a constraint.
-fn is_satisfied(bounds: &[Bound], constraint: Constraint) -> Result<bool, AllocError>
-    ensures { IfOk result (λ yes. IsTrue yes ↔ (low_of (bounds_of bounds.now) constraint ≤ high_of (bounds_of bounds.now) constraint)) }
+/// The values of the variables below the count above that of the zero node.
+fn values_of(alloc: Global, draft: &Draft, count: u32) -> Result<Vec<u64>, AllocError>
+    requires { (u : ℕ) → u < count → (reached_at draft.now None).value ≤ (reached_at draft.now (Some u)).value }
+    ensures len { IfOk result (λ values. length values.items ≡ count) }
+    ensures values { IfOk result (λ values. (u : ℕ) → u < count → get_or values.items u 0 + (reached_at draft.now None).value ≡ (reached_at draft.now (Some u)).value) }
 {
-    let (low, _) = node_at(bounds, constraint.low.base);
-    let (high, _) = node_at(bounds, constraint.high.base);
-    let low = low
-        .checked_add(u64::from(constraint.low.plus))
-        .ok_or(AllocError)?;
-    let high = high
-        .checked_add(u64::from(constraint.high.plus))
-        .ok_or(AllocError)?;
-    Ok(low <= high)
+    let base = draft.get(None).value;
+    let mut values = Vec::with_capacity(alloc, count as usize)?;
+    for variable in 0..count {
+        values.push(draft.get(Some(variable)).value - base)?;
+    }
+    Ok(values)
 }
 
-/// Puts a constraint and its changes behind the others, both or neither.
-fn record(
-    alloc: Global,
-    edges: &mut Edges,
-    history: &mut Vec<List<Change>>,
-    added: Constraint,
-    changes: List<Change>,
-) -> Result<(), AllocError>
-    ensures edges { OnOk result (edges.new ≡ edges.old ++ added ∷ []) }
-    ensures history { OnOk result (history.new.items ≡ history.old.items ++ changes ∷ []) }
-    ensures same_edges { OnErr result (edges.new ≡ edges.old) }
-    ensures same_history { OnErr result (history.new.items ≡ history.old.items) }
+/// Least values as a potential, or one of them that is over a limit and what forces it.
+#[derive(Drop)]
+pub enum Settled {
+    Within(Potential),
+    Over(Constraint, u64),
+}
+
+/// Lays least values out as a potential, in which the zero node has the value `START`.
+fn lay_out(alloc: Global, draft: &Draft, count: u32, limit: u64) -> Result<Settled, AllocError>
+    requires limit { limit ≤ 1152921504606846976 }
+    requires above { (u : ℕ) → u < count → (reached_at draft.now None).value ≤ (reached_at draft.now (Some u)).value }
+    ensures { IfOk result (IsSettled count limit (reached_at draft.now)) }
 {
-    edges.push(alloc, added)?;
-    if history.push(changes).is_err() {
-        let _ = edges.pop();
-        return Err(AllocError);
+    let base = draft.get(None).value;
+    let mut settled = Potential::new(alloc);
+    for variable in 0..count {
+        let reached = draft.get(Some(variable));
+        let value = reached.value - base;
+        if value > limit {
+            return Ok(Settled::Over(reached.cause, value));
+        }
+        settled.reserve(Some(variable))?;
+        settled.write(Some(variable), START + value);
+    }
+    Ok(Settled::Within(settled))
+}
+
+/// The cycle of a single constraint.
+fn alone(alloc: Global, constraint: Constraint) -> Result<List<Constraint>, AllocError>
+    ensures { IfOk result (λ cycle. cycle ≡ constraint ∷ []) }
+{
+    let mut cycle = Vec::new(alloc);
+    cycle.push(constraint)?;
+    Ok(List::of(cycle))
+}
+
+/// Makes room for the nodes that were reached.
+fn reserve_all(potential: &mut Potential, draft: &Draft) -> Result<(), AllocError>
+    ensures room { OnOk result ((u : Option ℕ) → Contains draft.now.touched.items u → HasRoom potential.new u) }
+    ensures same { value_at potential.new ≡ value_at potential.old }
+    ensures top { IsBelowTop potential.old → IsBelowTop potential.new }
+{
+    for node in draft.touched.as_slice() {
+        potential.reserve(*node)?;
     }
     Ok(())
+}
+
+/// Moves the nodes that were reached.
+fn keep(potential: &mut Potential, draft: &Draft)
+    requires room { (u : Option ℕ) → Contains draft.now.touched.items u → HasRoom potential.old u }
+    requires touched { IsTouched draft.now }
+    ensures moved { value_at potential.new ≡ moved_to (value_at potential.old) (reached_at draft.now) }
+    ensures top { IsBelowTop potential.old → IsBelowTop potential.new }
+{
+    for node in draft.touched.as_slice() {
+        let reached = draft.get(*node);
+        if reached.gain > 0 {
+            potential.write(*node, reached.value);
+        }
+    }
 }

@@ -78,13 +78,13 @@ fn answers_to_single_constraints(rt: HostRuntime) {
     let implied = at_most(fixed(0), variable(0, 0));
     assert!(rt; is_cycle(&outcome_of(alloc, &[rises], &[falls]), &[falls, rises]));
     assert!(rt; outcome_of(alloc, &[even], &[falls]).is_ok());
-    assert!(rt; is_cycle(&outcome_of(alloc, &[low], &[high]), &[low, high]));
+    assert!(rt; is_cycle(&outcome_of(alloc, &[low], &[high]), &[high, low]));
     assert!(rt; is_cycle(&outcome_of(alloc, &[high], &[low]), &[low, high]));
     assert!(rt; is_cycle(&outcome_of(alloc, &[], &[wrong]), &[wrong]));
     assert!(rt; is_too_big(&outcome_of(alloc, &[far], &[rises]), rises, 1_000_001));
     assert!(rt; outcome_of(alloc, &[], &[far]).is_ok());
     assert!(rt; is_too_big(&outcome_of(alloc, &[], &[beyond]), beyond, 1_000_001));
-    assert!(rt; is_cycle(&outcome_of(alloc, &[], &[negative]), &[implied, negative]));
+    assert!(rt; is_cycle(&outcome_of(alloc, &[], &[negative]), &[negative, implied]));
     assert!(rt; is_cycle(&outcome_of(alloc, &[far], &[rises, falls]), &[falls, rises]));
 }
 
@@ -106,6 +106,49 @@ fn a_refusal_and_a_cut_go_back(rt: HostRuntime) -> Result<(), Fail> {
     }
     assert!(rt; graph.constraints() == [first].as_slice());
     assert!(rt; graph.extend(alloc, &[back]).is_ok());
+    Ok(())
+}
+
+#[test]
+fn a_long_cycle_is_found(rt: HostRuntime) -> Result<(), Fail> {
+    let alloc = rt.alloc();
+    let mut graph = Graph::new(alloc);
+    for number in 0..999u32 {
+        let even = at_most(variable(number, 0), variable(number + 1, 0));
+        assert!(rt; graph.extend(alloc, &[even]).is_ok());
+    }
+    let closing = at_most(variable(999, 1), variable(0, 0));
+    match graph.extend(alloc, &[closing]) {
+        Err(GraphFault::Cycle(cycle)) => assert!(rt; cycle.items().len() == 1000),
+        _ => assert!(rt; false),
+    }
+    assert!(rt; graph.len() == 999);
+    let back = at_most(variable(999, 0), variable(0, 0));
+    assert!(rt; graph.extend(alloc, &[back]).is_ok());
+    Ok(())
+}
+
+#[test]
+fn a_chain_may_come_last_to_first(rt: HostRuntime) -> Result<(), Fail> {
+    let alloc = rt.alloc();
+    let mut graph = Graph::new(alloc);
+    for number in (0..5000u32).rev() {
+        let strict = at_most(variable(number, 1), variable(number + 1, 0));
+        assert!(rt; graph.extend(alloc, &[strict]).is_ok());
+    }
+    let low = at_most(variable(5000, 0), fixed(4999));
+    assert!(rt; matches!(graph.extend(alloc, &[low]), Err(GraphFault::Cycle(_))));
+    let high = at_most(variable(5000, 0), fixed(5000));
+    assert!(rt; graph.extend(alloc, &[high]).is_ok());
+    let far = at_most(fixed(995_001), variable(0, 0));
+    assert!(rt; matches!(graph.extend(alloc, &[far]), Err(GraphFault::Cycle(_))));
+    if graph.len() >= 5000 {
+        graph.cut_to(5000);
+    }
+    let outcome = graph.extend(alloc, &[far]);
+    assert!(rt; matches!(outcome, Err(GraphFault::LevelTooBig { .. })));
+    let near = at_most(fixed(995_000), variable(0, 0));
+    assert!(rt; graph.extend(alloc, &[near]).is_ok());
     Ok(())
 }
 
@@ -158,6 +201,7 @@ fn try_all(constraints: &[Constraint]) -> Option<[u64; 3]> {
 fn small_graphs_agree_with_a_plain_search(rt: HostRuntime) -> Result<(), Fail> {
     let alloc = rt.alloc();
     let mut state: u64 = 12345;
+    let mut used = Graph::new(alloc);
     for turn in 0..300 {
         state = state
             .wrapping_mul(6_364_136_223_846_793_005)
@@ -171,6 +215,9 @@ fn small_graphs_agree_with_a_plain_search(rt: HostRuntime) -> Result<(), Fail> {
         ];
         let mut graph = Graph::new(alloc);
         let outcome = graph.extend(alloc, &constraints);
+        let again = used.extend(alloc, &constraints);
+        assert!(rt; again.is_ok() == outcome.is_ok(), "at {turn}");
+        used.cut_to(0);
         match try_all(&constraints) {
             None => assert!(rt; matches!(outcome, Err(GraphFault::Cycle(_))), "at {turn}"),
             Some(best) => {

@@ -1,11 +1,11 @@
-use Rattle.std.proofs.Common.{reverse}
-use Rattle.lego_level.specs.Bounds.{bounds_of, rank_of}
-use Rattle.lego_level.specs.Rising.{raise_of, current}
-use Rattle.lego_level.proofs.CycleLemmas.{Walked}
+use Rattle.std.proofs.Common.{◌∷◌, reverse}
+use Rattle.lego_level.specs.Potentials.{value_at}
+use Rattle.lego_level.specs.Searches.{reached_at}
+use Rattle.lego_level.proofs.CycleLemmas.{WalkedBack}
 use Rattle.lego_level.proofs.cycle.walk_back.Given as goal
 
-abbrev pub invariant-loop-closing : goal.invariant-loop-closing
-invariant-loop-closing l = Walked (bounds_of l.bounds) (raise_of l.draft) l.closing l.at (reverse l.chain.items)
+abbrev pub invariant-causes : goal.invariant-causes
+invariant-causes l = WalkedBack l.task.added (value_at l.fn.potential) (l.task.added ∷ l.fn.edges) (reached_at l.draft) l.at (reverse l.chain.items)
 
-abbrev pub decreases-loop-closing : goal.decreases-loop-closing
-decreases-loop-closing l = rank_of (current (bounds_of l.bounds) (raise_of l.draft)) l.at
+abbrev pub decreases-causes : goal.decreases-causes
+decreases-causes l = (reached_at l.draft l.at).rank

@@ -10,4 +10,4 @@ returns-clause-keeps c = λ d h. pushed_keeps _ _ _ c.in_ok-push.ensures.permuta
 
 pub returns-clause-only : goal.returns-clause-only
 returns-clause-only c = λ d h.
-    subst (λ xs. (d ≡ (c.args.gain, c.args.variable)) ⊎ Contains xs d) c.self.view_is (pushed_only _ _ _ c.in_ok-push.ensures.permutation d h)
+    subst (λ xs. (d ≡ (c.args.gain, c.args.node)) ⊎ Contains xs d) c.self.view_is (pushed_only _ _ _ c.in_ok-push.ensures.permutation d h)
