@@ -1,5 +1,5 @@
 -- What a comparison of two terms answers.
-use Rattle.std.specs.Prelude.{◌≡◌, ℕ, ◌≤◌, ◌↔◌, Bool, ◌&&◌, IsTrue, List, Some, Result, Ok, Err, All}
+use Rattle.std.specs.Prelude.{◌≡◌, ℕ, ◌≤◌, ◌↔◌, Bool, ◌&&◌, IsTrue, List, Some, All}
 use Rattle.std.specs.List.{list_all}
 use Rattle.lego_base.specs.declared.place.Place.{Place}
 use Rattle.lego_term.specs.declared.level.Level.{Level}
@@ -67,7 +67,3 @@ IsRefusedBy o b t u limit (Differ left right deeper) = DifferAt o b t u left rig
 IsRefusedBy o b t u limit Budget = CostMoreThan b t u limit × (Equal t u → ⊥)
 IsRefusedBy o b t u limit (TooLarge nodes levels) = Either (ReachesTooLarge b limit nodes levels) t u × (Equal t u → ⊥)
 IsRefusedBy o b t u limit Memory = Unit {0}
-
-abbrev pub Compares : Order → CoreBodies → Core → Core → ℕ → Place → Result (List Constraint) CompareFault → Type 0
-Compares o b t u limit place (Ok found) = IsDecidedBy o b t u place found
-Compares o b t u limit place (Err fault) = IsRefusedBy o b t u limit fault

@@ -47,9 +47,9 @@ mutual
     l_part : {h u : Core} {n : ℕ} {p : Branch} (i : ℕ) → slice_get (parts_of h) i ≡ Some p → Leads b p.term n u → FormLeads b h (suc n) u
 
 -- a path leads to a term over a limit of terms, or has `room` parts, one more than may follow
-pub data Large (leads : ℕ → Core → Type 0) (room : ℕ) : ℕ → ℕ → Type 0 where
-  tree : {n nodes levels : ℕ} {u : Core} → leads n u → IsTooLarge u nodes levels → Large leads room nodes levels
-  path : {u : Core} → leads room u → Large leads room 1048577 2001
+pub data Large (Leading : ℕ → Core → Type 0) (room : ℕ) : ℕ → ℕ → Type 0 where
+  tree : {n nodes levels : ℕ} {u : Core} → Leading n u → IsTooLarge u nodes levels → Large Leading room nodes levels
+  path : {u : Core} → Leading room u → Large Leading room 1048577 2001
 
 -- the parts from number i on are compared in pairs
 pub data PartsCompared (b : CoreBodies) (r : Relation) (t : Core) : ℕ → List Branch → List Branch → List LevelPair → Type 0 where
@@ -59,29 +59,29 @@ pub data PartsCompared (b : CoreBodies) (r : Relation) (t : Core) : ℕ → List
       → PartsCompared b r t i (p ∷ ps) (q ∷ qs) (k ++ l)
 
 -- a walk of so many steps together, within the limit, which gathered these constraints
-pub record Passed (walked : ℕ → ℕ → Type 0) (compared : List LevelPair → Type 0) (limit : ℕ) (place : Place) (t u : Core) (b : CoreBodies) (old new : List Constraint) (steps : ℕ) : Type 0 where
+pub record Passed (Walk : ℕ → ℕ → Type 0) (Compares : List LevelPair → Type 0) (limit : ℕ) (place : Place) (t u : Core) (b : CoreBodies) (old new : List Constraint) (steps : ℕ) : Type 0 where
   pub more : List Constraint
   pub added : new ≡ old ++ more
-  pub compared : compared (pairs_of more)
+  pub compared : Compares (pairs_of more)
   pub left : ℕ
   pub right : ℕ
-  pub walked : walked left right
+  pub walked : Walk left right
   pub sum : left + right ≡ steps
   pub within : steps ≤ limit
   pub placed : All (λ c. c.place ≡ Some place) more
   pub levels : AreLevelsOf b t u more
 
 -- the walk's steps are more than the limit
-pub record TooMany (walked : ℕ → ℕ → Type 0) (limit : ℕ) : Type 0 where
+pub record TooMany (Walk : ℕ → ℕ → Type 0) (limit : ℕ) : Type 0 where
   pub left : ℕ
   pub right : ℕ
-  pub walked : walked left right
+  pub walked : Walk left right
   pub over : limit < left + right
 
-pub record Apart (differ : ℕ → Core → Core → Type 0) (crossed deeper : ℕ) (left right : Core) : Type 0 where
+pub record Apart (Path : ℕ → Core → Core → Type 0) (before deeper : ℕ) (left right : Core) : Type 0 where
   pub within : ℕ
-  pub sum : deeper ≡ crossed + within
-  pub path : differ within left right
+  pub sum : deeper ≡ before + within
+  pub path : Path within left right
 
 -- why a walk stopped
 abbrev pub StopsBy : (differ : ℕ → Core → Core → Type 0) → (walked : ℕ → ℕ → Type 0) → (left right : ℕ → Core → Type 0) → (limit room crossed : ℕ) → Stop → Type 0

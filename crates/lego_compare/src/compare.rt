@@ -1,9 +1,9 @@
 //! Cumulativity and conversion.
-ghost use Rattle.std.specs.Prelude.{◌≤◌};
+ghost use Rattle.std.specs.Prelude.{◌≤◌, IfOk, IfErr};
 ghost use Rattle.lego_term.specs.Trees.{Equal, loose};
 ghost use Rattle.lego_term.specs.BodyMap.{bodies_in, AreClosed};
 ghost use Rattle.lego_laws.specs.Facing.{Up, Both};
-ghost use Rattle.lego_compare.specs.Answers.{Compares, IsRefusedBy};
+ghost use Rattle.lego_compare.specs.Answers.{IsDecidedBy, IsRefusedBy};
 ghost use Rattle.lego_compare.specs.Codes.{order_of};
 ghost use Rattle.lego_compare.specs.Causes.{LargeIn, Stopped, PassesIn};
 
@@ -32,7 +32,8 @@ pub fn below(
     requires left { loose a.now ≤ 61536 }
     requires right { loose b.now ≤ 61536 }
     requires closed { AreClosed bodies.now }
-    ensures { Compares Up (bodies_in bodies.now) a.now b.now limit place result }
+    ensures decided { IfOk result (λ found. IsDecidedBy Up (bodies_in bodies.now) a.now b.now place found.items) }
+    ensures refused { IfErr result (λ fault. IsRefusedBy Up (bodies_in bodies.now) a.now b.now limit fault) }
 {
     compared(alloc, bodies, Relation::Below, a, b, limit, place)
 }
@@ -49,7 +50,8 @@ pub fn same(
     requires left { loose a.now ≤ 61536 }
     requires right { loose b.now ≤ 61536 }
     requires closed { AreClosed bodies.now }
-    ensures { Compares Both (bodies_in bodies.now) a.now b.now limit place result }
+    ensures decided { IfOk result (λ found. IsDecidedBy Both (bodies_in bodies.now) a.now b.now place found.items) }
+    ensures refused { IfErr result (λ fault. IsRefusedBy Both (bodies_in bodies.now) a.now b.now limit fault) }
 {
     compared(alloc, bodies, Relation::Same, a, b, limit, place)
 }
@@ -67,7 +69,8 @@ fn compared(
     requires left { loose a.now ≤ 61536 }
     requires right { loose b.now ≤ 61536 }
     requires closed { AreClosed bodies.now }
-    ensures { Compares (order_of relation) (bodies_in bodies.now) a.now b.now limit place result }
+    ensures decided { IfOk result (λ found. IsDecidedBy (order_of relation) (bodies_in bodies.now) a.now b.now place found.items) }
+    ensures refused { IfErr result (λ fault. IsRefusedBy (order_of relation) (bodies_in bodies.now) a.now b.now limit fault) }
 {
     let mut found = Vec::new(alloc);
     if equal(a, b) {

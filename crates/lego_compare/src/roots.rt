@@ -18,7 +18,7 @@ pub(crate) enum Roots {
 }
 
 /// What the roots say.
-pub(crate) fn roots(relation: Relation, a: &Term, b: &Term) -> Roots
+pub(crate) fn compare_roots(relation: Relation, a: &Term, b: &Term) -> Roots
     ensures { result ≡ roots_of relation a.now b.now }
 {
     match (a.view(), b.view()) {

@@ -9,7 +9,7 @@ ghost use Rattle.lego_compare.specs.Walks.{Heads, Walks, FormsWalk, PartsWalk, I
 
 use crate::parts::{binds, part_at};
 use crate::relation::{Relation, relation_at};
-use crate::roots::{Roots, roots};
+use crate::roots::{Roots, compare_roots};
 use crate::stop::{Side, Stop};
 use lego_base::Place;
 use lego_level::Constraint;
@@ -45,7 +45,7 @@ fn part(
     requires right { loose b.now + at.room ≤ 63537 }
     requires path { at.room + at.deeper ≤ 2001 }
     requires closed { AreClosed bodies.now }
-    ensures { Walks (bodies_in bodies.now) at.relation a.now b.now limit at.room at.deeper place found.old found.new result }
+    ensures { Walks (bodies_in bodies.now) at.relation a.now b.now limit at.room at.deeper place found.old.items found.new.items result }
 {
     if equal(a, b) {
         return Ok(0);
@@ -69,7 +69,7 @@ pub(crate) fn different(
     requires right { loose b.now + at.room ≤ 63537 }
     requires path { at.room + at.deeper ≤ 2001 }
     requires closed { AreClosed bodies.now }
-    ensures { Walks (bodies_in bodies.now) at.relation a.now b.now limit at.room at.deeper place found.old found.new result }
+    ensures { Walks (bodies_in bodies.now) at.relation a.now b.now limit at.room at.deeper place found.old.items found.new.items result }
 {
     if at.room == 0 {
         return Err(Stop::TooLarge {
@@ -140,9 +140,9 @@ fn forms(
     requires path { at.room + at.deeper ≤ 2001 }
     requires goes_on { 0 < at.room }
     requires closed { AreClosed bodies.now }
-    ensures { FormsWalk (bodies_in bodies.now) at.relation a.now b.now limit at.room at.deeper place found.old found.new result }
+    ensures { FormsWalk (bodies_in bodies.now) at.relation a.now b.now limit at.room at.deeper place found.old.items found.new.items result }
 {
-    match roots(at.relation, a, b) {
+    match compare_roots(at.relation, a, b) {
         Roots::Apart => Err(differing(a, b, at.deeper)),
         Roots::Universes(low, high) => {
             ask(at.relation, low, high, place, found)?;
@@ -174,7 +174,7 @@ fn ask(
     place: Place,
     found: &mut Vec<Constraint>,
 ) -> Result<(), AllocError>
-    ensures { IfOk result (λ _. found.new ≡ found.old ++ asked_at relation low high place) }
+    ensures { IfOk result (λ _. found.new.items ≡ found.old.items ++ asked_at relation low high place) }
 {
     let place = Some(place);
     found.push(Constraint { low, high, place })?;
@@ -207,7 +207,7 @@ fn parts_from(
     requires goes_on { 0 < at.room }
     requires closed { AreClosed bodies.now }
     requires one_form { shape_of a.now ≡ shape_of b.now }
-    ensures { PartsWalk (bodies_in bodies.now) at.relation a.now b.now number limit at.room at.deeper place found.old found.new result }
+    ensures { PartsWalk (bodies_in bodies.now) at.relation a.now b.now number limit at.room at.deeper place found.old.items found.new.items result }
 {
     let (Some(left), Some(right)) = (part_at(a, number), part_at(b, number)) else {
         return Ok(0);
