@@ -4,6 +4,8 @@ use Rattle.lego_base.specs.declared.place.Place.{Place}
 use Rattle.lego_level.specs.declared.constraint.Constraint.{Constraint}
 use Rattle.lego_reduce.specs.declared.fault.ReduceFault.{ReduceFault}
 use Rattle.lego_reduce.specs.declared.fault.ReduceFault.TheVariants as reduce
+use Rattle.lego_compare.specs.declared.fault.CompareFault.{CompareFault}
+use Rattle.lego_compare.specs.declared.fault.CompareFault.TheVariants as compare
 use Rattle.lego_compare.specs.declared.stop.Stop.{Stop}
 use Rattle.lego_compare.specs.declared.stop.Stop.TheVariants.{Budget, TooLarge, Memory}
 use Rattle.lego_compare.specs.declared.stop.Side.{Side}
@@ -69,3 +71,9 @@ abbrev pub stop_on : Side → ReduceFault → Stop
 stop_on side reduce.Budget = Budget
 stop_on side (reduce.TooLarge nodes levels) = TooLarge side nodes levels
 stop_on side reduce.Memory = Memory
+
+-- the fault of a reduction as one of a comparison
+abbrev pub compare_fault : ReduceFault → CompareFault
+compare_fault reduce.Budget = compare.Budget
+compare_fault (reduce.TooLarge nodes levels) = compare.TooLarge nodes levels
+compare_fault reduce.Memory = compare.Memory

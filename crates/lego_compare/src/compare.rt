@@ -1,10 +1,10 @@
 //! Cumulativity and conversion.
-ghost use Rattle.std.specs.Prelude.{◌≤◌, IfOk, IfErr};
+ghost use Rattle.std.specs.Prelude.{◌≡◌, ◌≤◌, IfOk, IfErr};
 ghost use Rattle.lego_term.specs.Trees.{Equal, loose};
 ghost use Rattle.lego_term.specs.BodyMap.{bodies_in, AreClosed};
 ghost use Rattle.lego_laws.specs.Facing.{Up, Both};
 ghost use Rattle.lego_compare.specs.Answers.{IsDecidedBy, IsRefusedBy};
-ghost use Rattle.lego_compare.specs.Codes.{order_of};
+ghost use Rattle.lego_compare.specs.Codes.{order_of, compare_fault};
 ghost use Rattle.lego_compare.specs.Causes.{LargeIn, Stopped, PassesIn};
 
 use crate::fault::CompareFault;
@@ -115,13 +115,10 @@ fn fault_of(
             deeper,
         },
         Stop::Budget => CompareFault::Budget,
-        Stop::TooLarge { side, size, depth } => {
-            let of = match side {
-                Side::Left => a,
-                Side::Right => b,
-            };
-            too_large(alloc, bodies, of, limit, size, depth)
-        }
+        Stop::TooLarge { side, size, depth } => match side {
+            Side::Left => too_large(alloc, bodies, a, limit, size, depth),
+            Side::Right => too_large(alloc, bodies, b, limit, size, depth),
+        },
         Stop::Memory => CompareFault::Memory,
     }
 }
@@ -144,8 +141,17 @@ fn too_large(
 {
     match normal(alloc, bodies, t, limit) {
         Ok(_) => CompareFault::TooLarge { size, depth },
-        Err(ReduceFault::Budget) => CompareFault::Budget,
-        Err(ReduceFault::TooLarge { size, depth }) => CompareFault::TooLarge { size, depth },
-        Err(ReduceFault::Memory) => CompareFault::Memory,
+        Err(fault) => reduction_fault(fault),
+    }
+}
+
+/// The same fault of a comparison.
+fn reduction_fault(fault: ReduceFault) -> CompareFault
+    ensures { result ≡ compare_fault fault }
+{
+    match fault {
+        ReduceFault::Budget => CompareFault::Budget,
+        ReduceFault::TooLarge { size, depth } => CompareFault::TooLarge { size, depth },
+        ReduceFault::Memory => CompareFault::Memory,
     }
 }

@@ -1,0 +1,5 @@
+pub mod CauseLemmas
+pub mod DecidedLemmas
+pub mod DifferLemmas
+pub mod ReachLemmas
+pub mod ZeroLemmas

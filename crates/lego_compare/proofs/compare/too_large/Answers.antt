@@ -1,0 +1,15 @@
+use Rattle.std.proofs.Common.{◌≡◌, sym, subst}
+use Rattle.lego_term.specs.BodyMap.{bodies_in}
+use Rattle.lego_term.specs.Sequences.{normal_step}
+use Rattle.lego_reduce.specs.Reduction.{Reduces}
+use Rattle.lego_compare.specs.Causes.{PassesIn}
+use Rattle.lego_compare.proofs.CauseLemmas.{of_reduction, of_end}
+use Rattle.lego_compare.proofs.compare.too_large.Goals.{in-Ok, in-Err}
+use Rattle.lego_compare.proofs.compare.too_large.Goals as goal
+
+pub returns : goal.returns
+returns c =
+    elim c.match-normal.branch [
+      | in-Ok w ↦ ?
+      | in-Err w ↦ ?
+    ]
