@@ -1,5 +1,5 @@
 -- What a stopped walk says of the whole sequences.
-use Rattle.std.proofs.Common.{◌≡◌, ℕ, zero, suc, ◌+◌, ◌≤◌, ◌<◌, Some, Err, refl, subst, arith}
+use Rattle.std.proofs.Common.{◌≡◌, ℕ, zero, suc, ◌+◌, ◌≤◌, ◌<◌, Some, Ok, Err, refl, subst, arith}
 use Rattle.lego_term.specs.Trees.{Core, Equal}
 use Rattle.lego_term.specs.Sequences.{normal_step, after, CostMoreThan, MoreThan}
 use Rattle.lego_laws.specs.Parallel.{CoreBodies, AreClosed}
@@ -8,15 +8,17 @@ use Rattle.lego_laws.specs.Facing.{Order}
 use Rattle.lego_laws.proofs.Counted.{long_walks_are_costly}
 use Rattle.lego_reduce.specs.declared.fault.ReduceFault.{ReduceFault}
 use Rattle.lego_reduce.specs.declared.fault.ReduceFault.TheVariants as reduce
+use Rattle.lego_reduce.specs.declared.head_form.Reduced.{Reduced}
 use Rattle.lego_reduce.specs.Reduction.{Reduces}
 use Rattle.lego_term.specs.Parts.{tree}
 use Rattle.lego_compare.specs.declared.fault.CompareFault.{CompareFault}
 use Rattle.lego_compare.specs.declared.fault.CompareFault.TheVariants.{Differ, Budget, TooLarge, Memory}
 use Rattle.lego_compare.specs.Codes.{compare_fault}
 use Rattle.lego_compare.specs.Answers.{DifferAt, IsRefusedBy, Either, of_left, of_right}
-use Rattle.lego_compare.specs.Causes.{PassesIn}
+use Rattle.lego_compare.specs.Causes.{PassesIn, LargeIn}
 use Rattle.lego_compare.specs.Walks.{Differ as Differing, Apart, TooMany}
 use Rattle.lego_compare.proofs.DifferLemmas.{differ_at}
+use Rattle.lego_compare.proofs.ReachLemmas.{reaches_large}
 
 pub apart_whole : (b : CoreBodies) → AreClosed b → (o : Order) (t u l r : Core) (n : ℕ) → Apart (Differing b o t u) 0 n l r → DifferAt o b t u l r n
 apart_whole b closed o t u l r n p =
@@ -50,3 +52,7 @@ pub of_reduction : (b : CoreBodies) (t : Core) (limit : ℕ) (fault : ReduceFaul
 of_reduction b t limit reduce.Budget h = h
 of_reduction b t limit (reduce.TooLarge nodes levels) h = record { steps = h.0; term = h.1; within = h.2; reaches = h.3; large = tree h.4 }
 of_reduction b t limit reduce.Memory h = tt
+
+-- the walk came to a term too large, and the term's own reduction ends
+pub of_end : (b : CoreBodies) (t : Core) (limit nodes levels : ℕ) (reduced : Reduced) → Reduces (normal_step b) t limit (Ok reduced) → LargeIn b t nodes levels → PassesIn b t limit (TooLarge nodes levels)
+of_end b t limit nodes levels reduced h large = reaches_large b t reduced.term reduced.steps limit h.0 h.1 large

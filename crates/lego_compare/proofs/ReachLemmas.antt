@@ -1,7 +1,7 @@
 -- Where a term's normalisation sequence ends, it passes each term to which a path through the term leads.
 use Rattle.std.proofs.Common.{◌≡◌, ℕ, zero, suc, ◌+◌, ◌-◌, ◌≤◌, ◌<◌, Option, Some, None, List, [], ◌∷◌, slice_get, inl, inr, ⊎_elim, refl, sym, ap, ◌∙◌, subst, arith}
 use Rattle.lego_term.specs.Trees.{Core, Var, Const, Prop, Univ, Pi, Lam, App, Sigma, Pair, Fst, Snd, depth}
-use Rattle.lego_term.specs.Parts.{Branch, parts_of, Subtree, whole, part, IsTooLarge, subtree, IsTooLargeOnTheWay}
+use Rattle.lego_term.specs.Parts.{Branch, plain_part, bound_part, parts_of, Subtree, whole, part, IsTooLarge, subtree, IsTooLargeOnTheWay}
 use Rattle.lego_term.specs.Parts as parts
 use Rattle.lego_term.specs.declared.binder.Binder.{Binder}
 use Rattle.lego_term.specs.Sequences.{head_step, normal_step, after, Ends}
@@ -93,7 +93,28 @@ module _ (b : CoreBodies) where
       let s' = split (λ z. F s.end z) (λ t. Unit {0}) (λ t u w k. (second s.end t u s.ends.last k, tt)) r (j - s.n) e tt s.rest in
       and_others None (record { under = o; term = r } ∷ []) s (and_others o [] s' (no_parts (j - s.n - s'.n)))
 
-  pub parts_end : (h : Core) (j : ℕ) (e : Core) → IsHeadForm b h → Ends (normal_step b) h j e → AllEnd (parts_of h) j
+  -- of a pair, from its fourth, third, second and first part on
+  fourth_ends : (x : Binder) (a r m n e : Core) (j : ℕ) → normal_step b a ≡ None → normal_step b r ≡ None → normal_step b m ≡ None → Ends (normal_step b) (Pair x a r m n) j e → AllEnd (plain_part n ∷ []) j
+  fourth_ends x a r m n e j la lr lm h =
+      let s = split (λ z. Pair x a r m z) (λ t. Unit {0}) (λ t u w q. (rw (la, lr, lm, q) refl, tt)) n j e tt h in
+      and_others None [] s (no_parts (j - s.n))
+
+  third_ends : (x : Binder) (a r m n e : Core) (j : ℕ) → normal_step b a ≡ None → normal_step b r ≡ None → Ends (normal_step b) (Pair x a r m n) j e → AllEnd (plain_part m ∷ plain_part n ∷ []) j
+  third_ends x a r m n e j la lr h =
+      let s = split (λ z. Pair x a r z n) (λ t. Unit {0}) (λ t u w q. (rw (la, lr, q) refl, tt)) m j e tt h in
+      and_others None (plain_part n ∷ []) s (fourth_ends x a r s.end n e (j - s.n) la lr s.ends.last s.rest)
+
+  second_ends : (x : Binder) (a r m n e : Core) (j : ℕ) → normal_step b a ≡ None → Ends (normal_step b) (Pair x a r m n) j e → AllEnd (bound_part x r ∷ plain_part m ∷ plain_part n ∷ []) j
+  second_ends x a r m n e j la h =
+      let s = split (λ z. Pair x a z m n) (λ t. Unit {0}) (λ t u w q. (rw (la, q) refl, tt)) r j e tt h in
+      and_others (Some x) (plain_part m ∷ plain_part n ∷ []) s (third_ends x a s.end m n e (j - s.n) la s.ends.last s.rest)
+
+  pair_ends : (x : Binder) (a r m n e : Core) (j : ℕ) → Ends (normal_step b) (Pair x a r m n) j e → AllEnd (plain_part a ∷ bound_part x r ∷ plain_part m ∷ plain_part n ∷ []) j
+  pair_ends x a r m n e j h =
+      let s = split (λ z. Pair x z r m n) (λ t. Unit {0}) (λ t u w q. (rw q refl, tt)) a j e tt h in
+      and_others None (bound_part x r ∷ plain_part m ∷ plain_part n ∷ []) s (second_ends x s.end r m n e (j - s.n) s.ends.last s.rest)
+
+  parts_end : (h : Core) (j : ℕ) (e : Core) → IsHeadForm b h → Ends (normal_step b) h j e → AllEnd (parts_of h) j
   parts_end (Pi x a r) j e k h = binder_ends (λ y z. Pi x y z) (λ y z u s. rw s refl) (λ y z u l s. rw (l, s) refl) (Some x) a r e j h
   parts_end (Lam x a r) j e k h = binder_ends (λ y z. Lam x y z) (λ y z u s. rw s refl) (λ y z u l s. rw (l, s) refl) (Some x) a r e j h
   parts_end (Sigma x a r) j e k h = binder_ends (λ y z. Sigma x y z) (λ y z u s. rw s refl) (λ y z u l s. rw (l, s) refl) (Some x) a r e j h
@@ -101,18 +122,7 @@ module _ (b : CoreBodies) where
       let s = split (λ z. App k z n) (IsFunction b) (λ t u w q. in_function b k n t u w q) m j e (app_stuck b k m n p) h in
       let s' = split (λ z. App k s.end z) (λ t. Unit {0}) (λ t u w q. (in_argument b k s.end t u s.kept s.ends.last q, tt)) n (j - s.n) e tt s.rest in
       and_others None (record { under = None; term = n } ∷ []) s (and_others None [] s' (no_parts (j - s.n - s'.n)))
-  parts_end (Pair x a r m n) j e p h =
-      let s = split (λ z. Pair x z r m n) (λ t. Unit {0}) (λ t u w q. (rw q refl, tt)) a j e tt h in
-      let la = s.ends.last in
-      let s' = split (λ z. Pair x s.end z m n) (λ t. Unit {0}) (λ t u w q. (rw (la, q) refl, tt)) r (j - s.n) e tt s.rest in
-      let lr = s'.ends.last in
-      let s'' = split (λ z. Pair x s.end s'.end z n) (λ t. Unit {0}) (λ t u w q. (rw (la, lr, q) refl, tt)) m (j - s.n - s'.n) e tt s'.rest in
-      let lm = s''.ends.last in
-      let s3 = split (λ z. Pair x s.end s'.end s''.end z) (λ t. Unit {0}) (λ t u w q. (rw (la, lr, lm, q) refl, tt)) n (j - s.n - s'.n - s''.n) e tt s''.rest in
-      let last = and_others None [] s3 (no_parts (j - s.n - s'.n - s''.n - s3.n)) in
-      let third = and_others None (record { under = None; term = n } ∷ []) s'' last in
-      let second = and_others (Some x) (record { under = None; term = m } ∷ record { under = None; term = n } ∷ []) s' third in
-      and_others None (record { under = Some x; term = r } ∷ record { under = None; term = m } ∷ record { under = None; term = n } ∷ []) s second
+  parts_end (Pair x a r m n) j e p h = pair_ends x a r m n e j h
   parts_end (Fst m) j e p h =
       let s = split Fst (IsOperand b) (λ t u w q. in_fst b t u w q) m j e (fst_stuck b m p) h in
       and_others None [] s (no_parts (j - s.n))
@@ -148,17 +158,17 @@ module _ (b : CoreBodies) where
         ends = h;
         place = λ k v le x. record { steps = k; le = omega arith; qs = record { under = q.under; term = v } ∷ ps; reach = within k x; here = refl };
       })
-  select (suc i) p (one_more n {n = l} {p = q} {u = w} h r) e =
+  select (suc i) p (one_more n {n = l} {p = q} {ps = ps} {u = w} h r) e =
       let s = select i p r e in
       record {
         n = s.n;
         end = s.end;
         ends = s.ends;
-        place = λ k v le x. later (s.place k v le x);
+        place = λ k v le x. later v (s.place k v le x);
       }
     where
-      later : {v : Core} → Placed _ l i p v → Placed _ (n + l) (suc i) p v
-      later y = let g = y.le in record { steps = n + y.steps; le = omega arith; qs = record { under = q.under; term = w } ∷ y.qs; reach = behind n h y.reach; here = y.here }
+      later : (v : Core) → Placed ps l i p v → Placed (q ∷ ps) (n + l) (suc i) p v
+      later v y = let g = y.le in record { steps = n + y.steps; le = omega arith; qs = record { under = q.under; term = w } ∷ y.qs; reach = behind n h y.reach; here = y.here }
 
   -- a term on the sequence, within so many steps, in which w stands so deep
   record Reach (t : Core) (n k : ℕ) (w : Core) : Type 0 where
