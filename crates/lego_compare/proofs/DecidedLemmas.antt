@@ -1,5 +1,6 @@
 -- What a walk through both whole terms decides.
 use Rattle.std.proofs.Common.{◌≡◌, ℕ, Some, List, [], ◌++◌, refl, sym, subst, All}
+use Rattle.std.proofs.lemmas.List.Elements.{All-nil}
 use Rattle.lego_base.specs.declared.place.Place.{Place}
 use Rattle.lego_term.specs.Trees.{Core, Equal}
 use Rattle.lego_laws.specs.Parallel.{CoreBodies, AreClosed}
@@ -21,4 +22,4 @@ module _ (b : CoreBodies) (closed : AreClosed b) (o : Order) (t u : Core) (place
   decided limit steps found p = subst (λ z. IsDecidedBy o b t u place z) (sym p.added) (decide p.more p.compared p.placed p.levels)
 
   pub decided_equal : Equal t u → IsDecidedBy o b t u place []
-  decided_equal e = decide [] (m_equal e) (grind) (λ p i j k. grind)
+  decided_equal e = decide [] (m_equal e) (All-nil _) (λ p i j k. All-nil _)

@@ -2,4 +2,5 @@ pub mod CauseLemmas
 pub mod DecidedLemmas
 pub mod DifferLemmas
 pub mod ReachLemmas
+pub mod WalkLemmas
 pub mod ZeroLemmas
