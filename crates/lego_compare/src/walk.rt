@@ -104,7 +104,8 @@ fn head_of(
 ) -> Result<Reduced, Stop>
     requires room { loose t.now ≤ 63536 }
     requires closed { AreClosed bodies.now }
-    ensures { Heads (bodies_in bodies.now) side t.now limit result }
+    ensures head { Heads (bodies_in bodies.now) side t.now limit result }
+    ensures bound { IfOk result (λ reduced. loose reduced.term ≤ loose t.now) }
 {
     match head(alloc, bodies, t, limit) {
         Ok(reduced) => Ok(reduced),

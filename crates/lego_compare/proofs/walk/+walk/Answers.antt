@@ -1,19 +1,32 @@
-use Rattle.std.proofs.Common.{◌≡◌, ◌++◌, [], sym, subst, refl}
+use Rattle.std.proofs.Common.{◌≡◌, ◌++◌, [], sym, subst, refl, arith}
 use Rattle.std.proofs.lemmas.Result.{err_from_is_err_and}
 use Rattle.lego_term.specs.BodyMap.{bodies_in}
 use Rattle.lego_compare.specs.Codes.{order_of}
 use Rattle.lego_compare.proofs.WalkLemmas.{no_room, left_stops, right_stops, inner_stops, inner_passes, equal_passes}
+use Rattle.lego_compare.proofs.RootLemmas.{apart_stops}
 use Rattle.lego_compare.proofs.walk.+walk.Goals as goal
 
 pub different-returns-then-at-eq0 : goal.different-returns-then-at-eq0
-different-returns-then-at-eq0 t c = no_room (bodies_in c.args.bodies.now) (order_of c.args.at.relation) c.args.a.now c.args.b.now c.args.at.room ?
+different-returns-then-at-eq0 t c = no_room (bodies_in c.args.bodies.now) (order_of c.args.at.relation) c.args.a.now c.args.b.now c.args.at.room (let q = c.if-at-eq0.true in omega arith)
 
 pub different-returns-in_err-left : goal.different-returns-in_err-left
 different-returns-in_err-left t c =
     let e = err_from_is_err_and c.from_residual.result c.from_residual.ensures.1 in
-    rw (e.1, e.2) (left_stops (bodies_in c.args.bodies.now) (order_of c.args.at.relation) c.args.a.now c.args.b.now c.args.limit c.args.at.room c.args.at.deeper c.in_err-left.field-0.0 c.in_err-left.ensures)
+    rw (e.1, e.2) (left_stops (bodies_in c.args.bodies.now) (order_of c.args.at.relation) c.args.a.now c.args.b.now c.args.limit c.args.at.room c.args.at.deeper c.in_err-left.field-0.0 c.in_err-left.ensures.head)
 
 pub different-returns-in_err-right : goal.different-returns-in_err-right
 different-returns-in_err-right t c =
     let e = err_from_is_err_and c.from_residual-in_err-right.result c.from_residual-in_err-right.ensures.1 in
-    rw (e.1, e.2) (right_stops (bodies_in c.args.bodies.now) (order_of c.args.at.relation) c.args.a.now c.args.b.now c.args.limit c.args.at.room c.args.at.deeper c.in_ok-left.left.steps c.in_ok-left.left.term c.in_err-right.field-0.0 c.in_ok-left.ensures.0 c.in_ok-left.ensures.1 c.in_err-right.ensures)
+    rw (e.1, e.2) (right_stops (bodies_in c.args.bodies.now) (order_of c.args.at.relation) c.args.a.now c.args.b.now c.args.limit c.args.at.room c.args.at.deeper c.in_ok-left.left.steps c.in_ok-left.left.term c.in_err-right.field-0.0 c.in_ok-left.ensures.head.0 c.in_ok-left.ensures.head.1 c.in_err-right.ensures.head)
+
+pub different-returns-in_err-inner : goal.different-returns-in_err-inner
+different-returns-in_err-inner t c =
+    let e = err_from_is_err_and c.from_residual-in_err-inner.result c.from_residual-in_err-inner.ensures.1 in
+    let l = c.in_ok-left.ensures.head in
+    let r = c.in_ok-right.ensures.head in
+    let lw = l.1 in
+    let rw' = r.1 in
+    rw (e.1, e.2) (inner_stops (bodies_in c.args.bodies.now) (order_of c.args.at.relation) c.args.a.now c.args.b.now c.in_ok-left.left.steps c.in_ok-right.right.steps c.in_ok-left.left.term c.in_ok-right.right.term l.0 r.0 c.args.limit c.args.at.room c.args.at.deeper c.in_err-inner.field-0.0 (omega arith) c.in_err-inner.ensures)
+
+pub forms-returns-in-Apart : goal.forms-returns-in-Apart
+forms-returns-in-Apart t c = apart_stops (bodies_in c.args.bodies.now) c.args.at.relation c.args.a.now c.args.b.now c.args.limit c.args.at.room c.args.at.deeper c.differing.result ? c.differing.ensures
