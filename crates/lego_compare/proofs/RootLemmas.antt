@@ -37,13 +37,13 @@ same_roots r _ _ q SameRoot.universes = cc
 same_roots r h k q (SameRoot.parts {s = s} e f) = same_form r h k s q e f
 
 -- roots that are found apart are out of order
+apart_at : (r : Relation) (h k : Core) (o : Order) → order_of r ≡ o → roots_of r h k ≡ Apart → AreInOrder o h k → ⊥
+apart_at r h k _ e q (same_root s) = same_roots r h k q s
+apart_at Below _ _ _ e q prop_below = cc
+apart_at Same _ _ _ e q prop_below = cc
+
 pub apart_roots : (r : Relation) (h k : Core) → roots_of r h k ≡ Apart → AreInOrder (order_of r) h k → ⊥
-apart_roots r h k q (same_root s) = same_roots r h k q s
-apart_roots Below _ _ q prop_below = cc
-apart_roots Same _ _ q o = both_only q o
-  where
-    both_only : {h k : Core} → roots_of Same h k ≡ Apart → AreInOrder Both h k → ⊥
-    both_only {h} {k} p (same_root s) = same_roots Same h k p s
+apart_roots r h k q = apart_at r h k (order_of r) refl q
 
 pub apart_stops : (b : CoreBodies) (r : Relation) (h k : Core) (limit room crossed : ℕ) (why : Stop) → roots_of r h k ≡ Apart → IsApart h k crossed why → StopsBy (FormsDiffer b (order_of r) h k) (PartsWalked b (parts_of h) (parts_of k)) (FormLeads b h) (FormLeads b k) limit room crossed why
 apart_stops b r h k limit room crossed (stop.Differ x y n) q d =

@@ -1,9 +1,11 @@
-use Rattle.std.proofs.Common.{◌≡◌, ◌++◌, [], sym, subst, refl, arith}
+use Rattle.std.proofs.Common.{◌≡◌, ◌++◌, [], sym, ◌∙◌, subst, refl, arith}
+use Rattle.std.proofs.lemmas.List.{append-nil}
 use Rattle.std.proofs.lemmas.Result.{err_from_is_err_and}
 use Rattle.lego_term.specs.BodyMap.{bodies_in}
 use Rattle.lego_compare.specs.Codes.{order_of}
 use Rattle.lego_compare.proofs.WalkLemmas.{no_room, left_stops, right_stops, inner_stops, inner_passes, equal_passes}
 use Rattle.lego_compare.proofs.RootLemmas.{apart_stops}
+use Rattle.lego_compare.proofs.PartLemmas.{part_stops, rest_stops, drop_some, drop_none, order_of_part}
 use Rattle.lego_compare.proofs.walk.+walk.Goals as goal
 
 pub different-returns-then-at-eq0 : goal.different-returns-then-at-eq0
@@ -29,4 +31,13 @@ different-returns-in_err-inner t c =
     rw (e.1, e.2) (inner_stops (bodies_in c.args.bodies.now) (order_of c.args.at.relation) c.args.a.now c.args.b.now c.in_ok-left.left.steps c.in_ok-right.right.steps c.in_ok-left.left.term c.in_ok-right.right.term l.0 r.0 c.args.limit c.args.at.room c.args.at.deeper c.in_err-inner.field-0.0 (omega arith) c.in_err-inner.ensures)
 
 pub forms-returns-in-Apart : goal.forms-returns-in-Apart
-forms-returns-in-Apart t c = apart_stops (bodies_in c.args.bodies.now) c.args.at.relation c.args.a.now c.args.b.now c.args.limit c.args.at.room c.args.at.deeper c.differing.result ? c.differing.ensures
+forms-returns-in-Apart t c = apart_stops (bodies_in c.args.bodies.now) c.args.at.relation c.args.a.now c.args.b.now c.args.limit c.args.at.room c.args.at.deeper c.differing.result (sym c.compare_roots.ensures ∙ c.in-Apart.is) c.differing.ensures
+
+pub part-returns-then-equal : goal.part-returns-then-equal
+part-returns-then-equal t c = equal_passes (bodies_in c.args.bodies.now) (order_of c.args.at.relation) c.args.a.now c.args.b.now c.args.limit c.args.place c.args.found.now.items (sym (append-nil c.args.found.now.items)) (c.equal.ensures.0 c.if-equal.true)
+
+pub parts_from-returns-in_err-steps : goal.parts_from-returns-in_err-steps
+parts_from-returns-in_err-steps t c = ?
+
+pub parts_from-returns-in_err-rest : goal.parts_from-returns-in_err-rest
+parts_from-returns-in_err-rest t c = let z = rest_stops (bodies_in c.args.bodies.now) (order_of c.args.at.relation) c.args.a.now c.args.b.now in ?
