@@ -5,5 +5,6 @@ pub mod DifferLemmas
 pub mod PartLemmas
 pub mod ReachLemmas
 pub mod RootLemmas
+pub mod StepLemmas
 pub mod WalkLemmas
 pub mod ZeroLemmas
