@@ -3,7 +3,7 @@ use Rattle.std.proofs.Common.{◌≡◌, ℕ, zero, suc, ◌+◌, ◌-◌, ◌�
 use Rattle.lego_base.specs.declared.place.Place.{Place}
 use Rattle.lego_level.specs.declared.constraint.Constraint.{Constraint}
 use Rattle.lego_term.specs.Trees.{Core, Var, Const, Prop, Univ, Pi, Lam, App, Sigma, Pair, Fst, Snd}
-use Rattle.lego_term.specs.Parts.{Shape, Branch, parts_of, shape_of}
+use Rattle.lego_term.specs.Parts.{Shape, Branch, plain_part, bound_part, parts_of, shape_of}
 use Rattle.lego_laws.specs.Parallel.{CoreBodies}
 use Rattle.lego_laws.specs.Counting.{Walked, PartsWalked}
 use Rattle.lego_laws.specs.Facing.{Order, order_at, crossed}
@@ -42,20 +42,20 @@ suc_of : (n : ℕ) → n + 1 ≡ suc n
 suc_of n = omega arith
 
 pub binds_crossed : (t : Core) (i : ℕ) (p : Branch) (before : ℕ) → slice_get (parts_of t) i ≡ Some p → (if binds t i then before + 1 else before) ≡ crossed before p
-binds_crossed (Pi x a c) zero p before e = crossed_by before _ p (cc)
-binds_crossed (Pi x a c) (suc zero) p before e = suc_of before ∙ crossed_by before _ p (cc)
-binds_crossed (Lam x a c) zero p before e = crossed_by before _ p (cc)
-binds_crossed (Lam x a c) (suc zero) p before e = suc_of before ∙ crossed_by before _ p (cc)
-binds_crossed (Sigma x a c) zero p before e = crossed_by before _ p (cc)
-binds_crossed (Sigma x a c) (suc zero) p before e = suc_of before ∙ crossed_by before _ p (cc)
-binds_crossed (App x a c) zero p before e = crossed_by before _ p (cc)
-binds_crossed (App x a c) (suc zero) p before e = crossed_by before _ p (cc)
-binds_crossed (Pair x a c m n) zero p before e = crossed_by before _ p (cc)
-binds_crossed (Pair x a c m n) (suc zero) p before e = suc_of before ∙ crossed_by before _ p (cc)
-binds_crossed (Pair x a c m n) (suc (suc zero)) p before e = crossed_by before _ p (cc)
-binds_crossed (Pair x a c m n) (suc (suc (suc zero))) p before e = crossed_by before _ p (cc)
-binds_crossed (Fst m) zero p before e = crossed_by before _ p (cc)
-binds_crossed (Snd m) zero p before e = crossed_by before _ p (cc)
+binds_crossed (Pi x a c) zero p before e = crossed_by before (plain_part a) p (cc)
+binds_crossed (Pi x a c) (suc zero) p before e = suc_of before ∙ crossed_by before (bound_part x c) p (cc)
+binds_crossed (Lam x a c) zero p before e = crossed_by before (plain_part a) p (cc)
+binds_crossed (Lam x a c) (suc zero) p before e = suc_of before ∙ crossed_by before (bound_part x c) p (cc)
+binds_crossed (Sigma x a c) zero p before e = crossed_by before (plain_part a) p (cc)
+binds_crossed (Sigma x a c) (suc zero) p before e = suc_of before ∙ crossed_by before (bound_part x c) p (cc)
+binds_crossed (App x a c) zero p before e = crossed_by before (plain_part a) p (cc)
+binds_crossed (App x a c) (suc zero) p before e = crossed_by before (plain_part c) p (cc)
+binds_crossed (Pair x a c m n) zero p before e = crossed_by before (plain_part a) p (cc)
+binds_crossed (Pair x a c m n) (suc zero) p before e = suc_of before ∙ crossed_by before (bound_part x c) p (cc)
+binds_crossed (Pair x a c m n) (suc (suc zero)) p before e = crossed_by before (plain_part m) p (cc)
+binds_crossed (Pair x a c m n) (suc (suc (suc zero))) p before e = crossed_by before (plain_part n) p (cc)
+binds_crossed (Fst m) zero p before e = crossed_by before (plain_part m) p (cc)
+binds_crossed (Snd m) zero p before e = crossed_by before (plain_part m) p (cc)
 binds_crossed _ _ p before e = cc
 
 -- the walk stopped in the part
