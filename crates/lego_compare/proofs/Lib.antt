@@ -2,6 +2,7 @@ pub mod BoundLemmas
 pub mod CauseLemmas
 pub mod DecidedLemmas
 pub mod DifferLemmas
+pub mod LevelLemmas
 pub mod PartLemmas
 pub mod ReachLemmas
 pub mod RootLemmas

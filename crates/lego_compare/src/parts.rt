@@ -1,6 +1,7 @@
 //! The parts of a head form, by number, left to right from 0.
-ghost use Rattle.std.specs.Prelude.{◌≡◌, ◌<◌, ◌≤◌, IfSome, option_map, slice_get, nat_eq, ◌&&◌};
+ghost use Rattle.std.specs.Prelude.{◌≡◌, ◌+◌, ◌<◌, ◌≤◌, IfSome, option_map, slice_get};
 ghost use Rattle.std.specs.Option.{option_copied};
+ghost use Rattle.lego_term.specs.Trees.{loose};
 ghost use Rattle.lego_term.specs.Parts.{parts_of};
 ghost use Rattle.lego_compare.specs.Codes.{term_of, binds as has_binder};
 
@@ -10,6 +11,7 @@ use lego_term::{Node, Term};
 pub(crate) fn part_at(t: &Term, number: usize) -> Option<&Term>
     ensures part { option_copied result ≡ option_map term_of (slice_get (parts_of t.now) number) }
     ensures few { IfSome result (λ _. number < 4) }
+    ensures bound { IfSome result (λ part. loose part.now ≤ loose t.now + 1) }
 {
     match (t.view(), number) {
         (Node::Pi(_, a, _), 0) | (Node::Lam(_, a, _), 0) => Some(a),

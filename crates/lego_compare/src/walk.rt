@@ -234,6 +234,7 @@ fn inside(at: Position, t: &Term, number: usize) -> Position
     requires path { at.room + at.deeper ≤ 2001 }
     requires goes_on { 0 < at.room }
     ensures relation { result.relation ≡ relation_of_part at.relation t.now number }
+    ensures path { result.room + result.deeper ≤ 2001 }
     ensures room { result.room ≡ at.room - 1 }
     ensures deeper { result.deeper ≡ if has_binder t.now number then at.deeper + 1 else at.deeper }
 {

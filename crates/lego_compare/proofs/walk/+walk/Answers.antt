@@ -6,10 +6,9 @@ use Rattle.lego_laws.specs.Counting.{Walked}
 use Rattle.lego_compare.specs.declared.relation.Relation.{Relation}
 use Rattle.lego_compare.specs.Codes.{order_of, relation_at}
 use Rattle.lego_compare.specs.Walks.{Differ, Leads, StopsBy}
-use Rattle.lego_compare.proofs.StepLemmas.{in_part}
+use Rattle.lego_compare.proofs.StepLemmas.{in_part, behind_part}
 use Rattle.lego_compare.proofs.WalkLemmas.{no_room, left_stops, right_stops, inner_stops, inner_passes, equal_passes}
 use Rattle.lego_compare.proofs.RootLemmas.{apart_stops}
-use Rattle.lego_compare.proofs.PartLemmas.{rest_stops}
 use Rattle.lego_compare.proofs.walk.+walk.Goals as goal
 
 pub different-returns-then-at-eq0 : goal.different-returns-then-at-eq0
@@ -48,3 +47,9 @@ parts_from-returns-in_err-steps t c =
     let w2 = subst (λ z. StopsBy (Differ (bodies_in c.args.bodies.now) (order_of (relation_at c.args.at.relation c.args.a.now c.args.number)) c.in-Some-Some.left.now c.in-Some-Some.right.now) (Walked (bodies_in c.args.bodies.now) c.in-Some-Some.left.now c.in-Some-Some.right.now) (Leads (bodies_in c.args.bodies.now) c.in-Some-Some.left.now) (Leads (bodies_in c.args.bodies.now) c.in-Some-Some.right.now) c.args.limit z c.inside-inside.result.deeper c.in_err-steps.field-0.0) i.room w1 in
     let w3 = subst (λ z. StopsBy (Differ (bodies_in c.args.bodies.now) (order_of (relation_at c.args.at.relation c.args.a.now c.args.number)) c.in-Some-Some.left.now c.in-Some-Some.right.now) (Walked (bodies_in c.args.bodies.now) c.in-Some-Some.left.now c.in-Some-Some.right.now) (Leads (bodies_in c.args.bodies.now) c.in-Some-Some.left.now) (Leads (bodies_in c.args.bodies.now) c.in-Some-Some.right.now) c.args.limit (c.args.at.room - 1) z c.in_err-steps.field-0.0) i.deeper w2 in
     rw (e.1, e.2) (in_part (bodies_in c.args.bodies.now) c.args.at.relation c.args.a.now c.args.b.now c.in-Some-Some.left.now c.in-Some-Some.right.now c.args.number c.args.limit c.args.at.room c.args.at.deeper c.args.place c.args.found.now.items c.part.new.found.items c.in_err-steps.field-0.0 c.requires.goes_on c.requires.one_form c.in-Some-Some.ensures.part c.in-Some-Some.ensures'.part w3)
+
+pub parts_from-returns-in_err-rest : goal.parts_from-returns-in_err-rest
+parts_from-returns-in_err-rest t c =
+    let e = err_from_is_err_and c.from_residual-in_err-rest.result c.from_residual-in_err-rest.ensures.1 in
+    let w = c.in_ok-steps.ensures in
+    rw (e.1, e.2) (behind_part (bodies_in c.args.bodies.now) c.args.at.relation c.args.a.now c.args.b.now c.in-Some-Some.left.now c.in-Some-Some.right.now c.args.number c.args.limit c.args.at.room c.args.at.deeper w.left w.right c.in_ok-steps.steps c.args.place c.args.found.now.items c.args.found.now.items c.args.found.now.items c.in_err-rest.field-0.0 c.in-Some-Some.ensures.part c.in-Some-Some.ensures'.part w.walked w.sum w.within c.in_err-rest.ensures)
