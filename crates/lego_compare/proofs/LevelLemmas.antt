@@ -29,18 +29,19 @@ module _ (p : Level → Bool) where
   part_levels (App x a r) (suc zero) q e h = is_part r q (cc) (in_both (levels_of a) (levels_of r) h).1
   part_levels (Sigma x a r) zero q e h = is_part a q (cc) (in_both (levels_of a) (levels_of r) h).0
   part_levels (Sigma x a r) (suc zero) q e h = is_part r q (cc) (in_both (levels_of a) (levels_of r) h).1
-  part_levels (Pair x a r m n) zero q e h = is_part a q (cc) (in_both (levels_of a) (levels_of r ++ levels_of m ++ levels_of n) h).0
+  part_levels (Pair x a r m n) zero q e h =
+      let s = in_both (levels_of a ++ levels_of r ++ levels_of m) (levels_of n) h in
+      let s' = in_both (levels_of a ++ levels_of r) (levels_of m) s.0 in
+      is_part a q (cc) (in_both (levels_of a) (levels_of r) s'.0).0
   part_levels (Pair x a r m n) (suc zero) q e h =
-      let s = in_both (levels_of a) (levels_of r ++ levels_of m ++ levels_of n) h in
-      is_part r q (cc) (in_both (levels_of r) (levels_of m ++ levels_of n) s.1).0
+      let s = in_both (levels_of a ++ levels_of r ++ levels_of m) (levels_of n) h in
+      let s' = in_both (levels_of a ++ levels_of r) (levels_of m) s.0 in
+      is_part r q (cc) (in_both (levels_of a) (levels_of r) s'.0).1
   part_levels (Pair x a r m n) (suc (suc zero)) q e h =
-      let s = in_both (levels_of a) (levels_of r ++ levels_of m ++ levels_of n) h in
-      let s' = in_both (levels_of r) (levels_of m ++ levels_of n) s.1 in
-      is_part m q (cc) (in_both (levels_of m) (levels_of n) s'.1).0
+      let s = in_both (levels_of a ++ levels_of r ++ levels_of m) (levels_of n) h in
+      is_part m q (cc) (in_both (levels_of a ++ levels_of r) (levels_of m) s.0).1
   part_levels (Pair x a r m n) (suc (suc (suc zero))) q e h =
-      let s = in_both (levels_of a) (levels_of r ++ levels_of m ++ levels_of n) h in
-      let s' = in_both (levels_of r) (levels_of m ++ levels_of n) s.1 in
-      is_part n q (cc) (in_both (levels_of m) (levels_of n) s'.1).1
+      is_part n q (cc) (in_both (levels_of a ++ levels_of r ++ levels_of m) (levels_of n) h).1
   part_levels (Fst m) zero q e h = is_part m q (cc) h
   part_levels (Snd m) zero q e h = is_part m q (cc) h
   part_levels _ _ q e h = cc

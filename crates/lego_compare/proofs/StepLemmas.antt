@@ -1,5 +1,5 @@
 -- One part of two head forms in a walk, as the code finds it.
-use Rattle.std.proofs.Common.{◌≡◌, ℕ, zero, suc, ◌+◌, ◌-◌, ◌≤◌, ◌<◌, Bool, true, false, if◌then◌else◌, drop, slice_get, Option, Some, None, Ok, Err, List, [], ◌∷◌, ◌++◌, option_map, refl, sym, ap, ◌∙◌, subst, arith}
+use Rattle.std.proofs.Common.{◌≡◌, ℕ, zero, suc, ◌+◌, ◌-◌, ◌≤◌, ◌<◌, Bool, true, false, ◌&&◌, IsTrue, if◌then◌else◌, drop, slice_get, Option, Some, None, Ok, Err, List, [], ◌∷◌, ◌++◌, option_map, refl, sym, ap, ◌∙◌, subst, arith}
 use Rattle.std.proofs.lemmas.List.{map-append, append_assoc}
 use Rattle.std.proofs.lemmas.List.Elements.{All-append}
 use Rattle.lego_base.specs.declared.place.Place.{Place}
@@ -116,6 +116,6 @@ both_pass b r h k left right i limit steps more place old mid new x y w rest =
       walked = next_part walked2 restw;
       sum = omega arith;
       within = omega arith;
-      placed = All-append _ w.more rest.more w.placed rest.placed;
-      levels = λ g a c d. All-append _ w.more rest.more (levels3 g a c d) (rest.levels g a c d);
+      placed = All-append (λ c. c.place ≡ Some place) w.more rest.more w.placed rest.placed;
+      levels = λ g a c d. All-append (λ z. IsTrue (g z.low && g z.high)) w.more rest.more (levels3 g a c d) (rest.levels g a c d);
     })

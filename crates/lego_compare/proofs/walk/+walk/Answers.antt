@@ -5,8 +5,9 @@ use Rattle.lego_term.specs.BodyMap.{bodies_in}
 use Rattle.lego_laws.specs.Counting.{Walked}
 use Rattle.lego_compare.specs.declared.relation.Relation.{Relation}
 use Rattle.lego_compare.specs.Codes.{order_of, relation_at}
-use Rattle.lego_compare.specs.Walks.{Differ, Leads, StopsBy}
-use Rattle.lego_compare.proofs.StepLemmas.{in_part, behind_part}
+use Rattle.lego_compare.specs.Walks.{Differ, Leads, StopsBy, Passed}
+use Rattle.lego_compare.proofs.StepLemmas.{in_part, behind_part, both_pass}
+use Rattle.lego_laws.specs.Comparison.{Compared}
 use Rattle.lego_compare.proofs.WalkLemmas.{no_room, left_stops, right_stops, inner_stops, inner_passes, equal_passes}
 use Rattle.lego_compare.proofs.RootLemmas.{apart_stops}
 use Rattle.lego_compare.proofs.walk.+walk.Goals as goal
@@ -53,3 +54,9 @@ parts_from-returns-in_err-rest t c =
     let e = err_from_is_err_and c.from_residual-in_err-rest.result c.from_residual-in_err-rest.ensures.1 in
     let w = c.in_ok-steps.ensures in
     rw (e.1, e.2) (behind_part (bodies_in c.args.bodies.now) c.args.at.relation c.args.a.now c.args.b.now c.in-Some-Some.left.now c.in-Some-Some.right.now c.args.number c.args.limit c.args.at.room c.args.at.deeper w.left w.right c.in_ok-steps.steps c.args.place c.args.found.now.items c.args.found.now.items c.args.found.now.items c.in_err-rest.field-0.0 c.in-Some-Some.ensures.part c.in-Some-Some.ensures'.part w.walked w.sum w.within c.in_err-rest.ensures)
+
+pub parts_from-returns : goal.parts_from-returns
+parts_from-returns t c =
+    let i = c.inside-inside.ensures in
+    let w = subst (λ (z : Relation). Passed (Walked (bodies_in c.args.bodies.now) c.in-Some-Some.left.now c.in-Some-Some.right.now) (Compared (bodies_in c.args.bodies.now) (order_of z) c.in-Some-Some.left.now c.in-Some-Some.right.now) c.args.limit c.args.place c.in-Some-Some.left.now c.in-Some-Some.right.now (bodies_in c.args.bodies.now) c.args.found.now.items c.part.new.found.items c.in_ok-steps.steps) i.relation c.in_ok-steps.ensures in
+    both_pass (bodies_in c.args.bodies.now) c.args.at.relation c.args.a.now c.args.b.now c.in-Some-Some.left.now c.in-Some-Some.right.now c.args.number c.args.limit c.in_ok-steps.steps c.in_ok-rest.rest c.args.place c.args.found.now.items c.part.new.found.items c.parts_from.new.found.items c.in-Some-Some.ensures.part c.in-Some-Some.ensures'.part w c.in_ok-rest.ensures
