@@ -1,16 +1,23 @@
 -- Head forms whose roots are alike, or both universes.
 use Rattle.std.proofs.Common.{◌≡◌, ℕ, zero, suc, ◌≤◌, drop, slice_get, Some, None, List, [], ◌∷◌, ◌++◌, refl, sym, ap, ◌∙◌, subst, arith}
-use Rattle.std.proofs.lemmas.List.{append-nil}
+use Rattle.std.proofs.lemmas.List.{append-nil, append_assoc}
 use Rattle.lego_term.specs.Trees.{Core, Var, Const, Prop, Univ, Pi, Lam, App, Sigma, Pair, Fst, Snd}
 use Rattle.lego_term.specs.Parts.{Shape, Branch, parts_of, shape_of}
 use Rattle.lego_compare.specs.declared.relation.Relation.{Relation}
+use Rattle.lego_compare.specs.declared.relation.Relation.TheVariants.{Below, Same}
 use Rattle.lego_compare.specs.declared.roots.Roots.TheVariants.{Apart, Universes, Alike}
 use Rattle.lego_compare.specs.Codes.{roots_of}
 use Rattle.lego_laws.specs.Parallel.{CoreBodies}
 use Rattle.lego_term.specs.Levels.{LevelPair}
-use Rattle.lego_laws.specs.Comparison.{Compared, FormsCompared, f_pi, f_lam, f_app, f_sigma, f_pair, f_fst, f_snd}
+use Rattle.lego_laws.specs.Comparison.{Compared, FormsCompared, f_var, f_const, f_prop, f_prop_univ, f_pi, f_lam, f_app, f_sigma, f_pair, f_fst, f_snd}
 use Rattle.lego_compare.specs.Codes.{order_of, relation_at}
-use Rattle.lego_compare.specs.Walks.{PartsCompared, c_none, c_next}
+use Rattle.lego_compare.specs.Walks.{PartsCompared, c_none, c_next, FormsWalk, PartsWalk, Passed}
+use Rattle.std.proofs.Common.{Result, Ok, Err, nat_eq}
+use Rattle.lego_base.specs.declared.place.Place.{Place}
+use Rattle.lego_level.specs.declared.constraint.Constraint.{Constraint}
+use Rattle.lego_level.specs.Graphs.{pairs_of}
+use Rattle.lego_compare.specs.declared.stop.Stop.{Stop}
+use Rattle.lego_compare.specs.Codes.{alike_if_equal}
 
 pub alike_shapes : (r : Relation) (h k : Core) → roots_of r h k ≡ Alike → shape_of h ≡ shape_of k
 alike_shapes r (Var i) (Var j) e = refl
@@ -50,3 +57,35 @@ lam_compared b r x y a c a' c' l s = let t = two b r (Lam x a c) s in subst (λ 
 
 pub app_compared : (b : CoreBodies) (r : Relation) (x y : _) (a c a' c' : Core) (l : List LevelPair) → PartsCompared b r (App x a c) 0 (parts_of (App x a c)) (parts_of (App y a' c')) l → FormsCompared b (order_of r) (App x a c) (App y a' c') l
 app_compared b r x y a c a' c' l s = let t = two b r (App x a c) s in subst (λ z. FormsCompared b (order_of r) (App x a c) (App y a' c') z) t.sum (f_app t.one t.other)
+
+pub pair_compared : (b : CoreBodies) (r : Relation) (x y : _) (a c m n a' c' m' n' : Core) (l : List LevelPair) → PartsCompared b r (Pair x a c m n) 0 (parts_of (Pair x a c m n)) (parts_of (Pair y a' c' m' n')) l → FormsCompared b (order_of r) (Pair x a c m n) (Pair y a' c' m' n') l
+pair_compared b r x y a c m n a' c' m' n' _ (c_next {k = i} p (c_next {k = j} q (c_next {k = k} z (c_next {k = l} w c_none)))) =
+    let e : (i ++ j) ++ (k ++ l) ≡ i ++ (j ++ (k ++ (l ++ []))) = append_assoc i j (k ++ l) ∙ ap (λ v. i ++ (j ++ (k ++ v))) (sym (append-nil l)) in
+    subst (λ v. FormsCompared b (order_of r) (Pair x a c m n) (Pair y a' c' m' n') v) e (f_pair p q z w)
+
+pub none_compared : (b : CoreBodies) (r : Relation) (h : Core) (l : List LevelPair) → PartsCompared b r h 0 [] [] l → l ≡ []
+none_compared b r h _ c_none = refl
+
+same_index : (i j : ℕ) → alike_if_equal i j ≡ Alike → i ≡ j
+same_index i j e = grind arith
+
+forms_compared : (b : CoreBodies) (r : Relation) (h k : Core) (l : List LevelPair) → roots_of r h k ≡ Alike → PartsCompared b r h 0 (parts_of h) (parts_of k) l → FormsCompared b (order_of r) h k l
+forms_compared b r (Var i) (Var j) l e s = rw (none_compared b r (Var i) l s, ← same_index i j e) f_var
+forms_compared b r (Const i) (Const j) l e s = rw (none_compared b r (Const i) l s, ← same_index i j e) f_const
+forms_compared b r Prop Prop l e s = rw (none_compared b r Prop l s) f_prop
+forms_compared b Below Prop (Univ m) l e s = rw (none_compared b Below Prop l s) f_prop_univ
+forms_compared b Same Prop (Univ m) l e s = cc
+forms_compared b r (Univ l') (Univ m) l e s = cc
+forms_compared b r (Pi x a c) (Pi y a' c') l e s = pi_compared b r x y a c a' c' l s
+forms_compared b r (Lam x a c) (Lam y a' c') l e s = lam_compared b r x y a c a' c' l s
+forms_compared b r (App x a c) (App y a' c') l e s = app_compared b r x y a c a' c' l s
+forms_compared b r (Sigma x a c) (Sigma y a' c') l e s = sigma_compared b r x y a c a' c' l s
+forms_compared b r (Pair x a c m n) (Pair y a' c' m' n') l e s = pair_compared b r x y a c m n a' c' m' n' l s
+forms_compared b r (Fst m) (Fst n) _ e (c_next {k = k} c c_none) = rw (append-nil k) (f_fst c)
+forms_compared b r (Snd m) (Snd n) _ e (c_next {k = k} c c_none) = rw (append-nil k) (f_snd c)
+forms_compared b r _ _ l e s = cc
+
+pub forms_pass : (b : CoreBodies) (r : Relation) (h k : Core) (limit room before : ℕ) (place : Place) (old new : List Constraint) (result : Result ℕ Stop) → roots_of r h k ≡ Alike → PartsWalk b r h k 0 limit room before place old new result → FormsWalk b r h k limit room before place old new result
+forms_pass b r h k limit room before place old new (Ok steps) e w =
+    record { more = w.more; added = w.added; compared = forms_compared b r h k (pairs_of w.more) e w.compared; left = w.left; right = w.right; walked = w.walked; sum = w.sum; within = w.within; placed = w.placed; levels = w.levels }
+forms_pass b r h k limit room before place old new (Err why) e w = w

@@ -10,7 +10,7 @@ use Rattle.lego_compare.proofs.StepLemmas.{in_part, behind_part, both_pass}
 use Rattle.lego_laws.specs.Comparison.{Compared}
 use Rattle.lego_compare.proofs.WalkLemmas.{no_room, left_stops, right_stops, inner_stops, inner_passes, equal_passes}
 use Rattle.lego_compare.proofs.RootLemmas.{apart_stops}
-use Rattle.lego_compare.proofs.AlikeLemmas.{alike_shapes, pi_compared, sigma_compared, lam_compared, app_compared}
+use Rattle.lego_compare.proofs.AlikeLemmas.{alike_shapes, forms_pass}
 use Rattle.lego_compare.proofs.walk.+walk.Goals as goal
 
 pub different-returns-then-at-eq0 : goal.different-returns-then-at-eq0
@@ -63,7 +63,7 @@ parts_from-returns t c =
     both_pass (bodies_in c.args.bodies.now) c.args.at.relation c.args.a.now c.args.b.now c.in-Some-Some.left.now c.in-Some-Some.right.now c.args.number c.args.limit c.in_ok-steps.steps c.in_ok-rest.rest c.args.place c.args.found.now.items c.part.new.found.items c.parts_from.new.found.items c.in-Some-Some.ensures.part c.in-Some-Some.ensures'.part w c.in_ok-rest.ensures
 
 pub forms-returns-in-Alike : goal.forms-returns-in-Alike
-forms-returns-in-Alike t c = let z = alike_shapes c.args.at.relation c.args.a.now c.args.b.now in ?
+forms-returns-in-Alike t c = forms_pass (bodies_in c.args.bodies.now) c.args.at.relation c.args.a.now c.args.b.now c.args.limit c.args.at.room c.args.at.deeper c.args.place c.args.found.now.items c.parts_from.new.found.items c.parts_from.result (sym c.compare_roots.ensures ∙ c.in-Alike.is) c.parts_from.ensures
 
 pub parts_from-returns-in_default : goal.parts_from-returns-in_default
 parts_from-returns-in_default t c = ?
