@@ -12,7 +12,8 @@ use Rattle.lego_term.specs.Levels.{LevelPair}
 use Rattle.lego_laws.specs.Comparison.{Compared, FormsCompared, f_var, f_const, f_prop, f_prop_univ, f_pi, f_lam, f_app, f_sigma, f_pair, f_fst, f_snd}
 use Rattle.lego_compare.specs.Codes.{order_of, relation_at}
 use Rattle.lego_compare.specs.Walks.{PartsCompared, c_none, c_next, FormsWalk, PartsWalk, Passed}
-use Rattle.std.proofs.Common.{Result, Ok, Err, nat_eq}
+use Rattle.std.proofs.Common.{Result, Ok, Err, nat_eq, length, Option}
+use Rattle.lego_term.specs.Parts.{APi, ALam, AnApp, ASigma, APair, AFst, ASnd}
 use Rattle.lego_base.specs.declared.place.Place.{Place}
 use Rattle.lego_level.specs.declared.constraint.Constraint.{Constraint}
 use Rattle.lego_level.specs.Graphs.{pairs_of}
@@ -89,3 +90,47 @@ pub forms_pass : (b : CoreBodies) (r : Relation) (h k : Core) (limit room before
 forms_pass b r h k limit room before place old new (Ok steps) e w =
     record { more = w.more; added = w.added; compared = forms_compared b r h k (pairs_of w.more) e w.compared; left = w.left; right = w.right; walked = w.walked; sum = w.sum; within = w.within; placed = w.placed; levels = w.levels }
 forms_pass b r h k limit room before place old new (Err why) e w = w
+
+abbrev arity : (t : Core) → Option Shape → ℕ
+arity t None = 0
+arity t (Some APi) = 2
+arity t (Some ALam) = 2
+arity t (Some AnApp) = 2
+arity t (Some ASigma) = 2
+arity t (Some APair) = 4
+arity t (Some AFst) = 1
+arity t (Some ASnd) = 1
+
+part_count : (t : Core) → length (parts_of t) ≡ arity t (shape_of t)
+part_count (Var i) = refl
+part_count (Const k) = refl
+part_count Prop = refl
+part_count (Univ l) = refl
+part_count (Pi x a c) = refl
+part_count (Lam x a c) = refl
+part_count (App x a c) = refl
+part_count (Sigma x a c) = refl
+part_count (Pair x a c m n) = refl
+part_count (Fst m) = refl
+part_count (Snd m) = refl
+
+arity_alone : (t u : Core) (o : Option Shape) → arity t o ≡ arity u o
+arity_alone t u None = refl
+arity_alone t u (Some APi) = refl
+arity_alone t u (Some ALam) = refl
+arity_alone t u (Some AnApp) = refl
+arity_alone t u (Some ASigma) = refl
+arity_alone t u (Some APair) = refl
+arity_alone t u (Some AFst) = refl
+arity_alone t u (Some ASnd) = refl
+
+past_end : {X Y : Type 0} (xs : List X) (ys : List Y) (i : ℕ) → length xs ≡ length ys → drop i xs ≡ [] → drop i ys ≡ []
+past_end [] [] zero e d = refl
+past_end [] [] (suc i) e d = refl
+past_end [] (y ∷ ys) i e d = cc
+past_end (x ∷ xs) [] i e d = cc
+past_end (x ∷ xs) (y ∷ ys) zero e d = cc
+past_end (x ∷ xs) (y ∷ ys) (suc i) e d = past_end xs ys i (cc) d
+
+pub same_count : (h k : Core) → shape_of h ≡ shape_of k → length (parts_of h) ≡ length (parts_of k)
+same_count h k e = part_count h ∙ (ap (arity h) e ∙ (arity_alone h k (shape_of k) ∙ sym (part_count k)))

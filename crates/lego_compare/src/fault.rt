@@ -15,7 +15,10 @@ pub enum CompareFault {
     Budget,
     /// A term that one of the normalisation sequences reaches within the limit has a subtree
     /// of this size and depth, which passes a limit of terms; or it is deeper than that.
-    TooLarge { size: u64, depth: u32 },
+    TooLarge {
+        size: u64,
+        depth: u32,
+    },
     /// Memory ran out.
     Memory,
 }

@@ -24,7 +24,11 @@ pub(crate) enum Stop {
     /// It made more steps than the limit.
     Budget,
     /// On this side it came to a term that passes a limit of terms, or through too many parts.
-    TooLarge { side: Side, size: u64, depth: u32 },
+    TooLarge {
+        side: Side,
+        size: u64,
+        depth: u32,
+    },
     /// Memory ran out.
     Memory,
 }

@@ -13,9 +13,11 @@ returns-in-Differ c =
     (subst (λ s. Stopped (order_of c.args.relation) (bodies_in c.args.bodies.now) c.args.a.now c.args.b.now c.args.limit s) c.in-Differ.is c.requires.stopped)
 
 pub returns-in-Budget : goal.returns-in-Budget
-returns-in-Budget c =
-    (too_many_whole (bodies_in c.args.bodies.now) c.args.a.now c.args.b.now c.args.limit
-    (subst (λ s. Stopped (order_of c.args.relation) (bodies_in c.args.bodies.now) c.args.a.now c.args.b.now c.args.limit s) c.in-Budget.is c.requires.stopped), c.requires.differ)
+returns-in-Budget c = (
+  too_many_whole (bodies_in c.args.bodies.now) c.args.a.now c.args.b.now c.args.limit
+      (subst (λ s. Stopped (order_of c.args.relation) (bodies_in c.args.bodies.now) c.args.a.now c.args.b.now c.args.limit s) c.in-Budget.is c.requires.stopped),
+  c.requires.differ,
+)
 
 pub returns-in-Left : goal.returns-in-Left
 returns-in-Left c = from_left (bodies_in c.args.bodies.now) (order_of c.args.relation) c.args.a.now c.args.b.now c.args.limit c.too_large.result c.requires.differ c.too_large.ensures
