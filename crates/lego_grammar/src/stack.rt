@@ -36,13 +36,6 @@ impl Stack {
         }
     }
 
-    /// The level of the next token, outside of names that are bound.
-    pub fn height(&self) -> usize
-        ensures { result ≡ level_of (stack self.now) }
-    {
-        self.height
-    }
-
     /// The level of the next token in this mode.
     pub fn level(&self, mode: &Mode) -> usize
         ensures { result ≡ level_in (state (mode_of mode.now) (stack self.now)) }
