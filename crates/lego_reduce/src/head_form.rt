@@ -29,8 +29,10 @@ pub(crate) enum Turn {
 }
 
 /// The head form of the term and the number of head steps to it.
+///
+/// The term has at most 65,536 loose variables, and no body has one.
 pub fn head(alloc: Global, bodies: &Bodies, t: &Term, limit: u64) -> Result<Reduced, ReduceFault>
-    requires room { loose t.now ≤ 63536 }
+    requires room { loose t.now ≤ 65536 }
     requires closed { AreClosed bodies.now }
     ensures { Reduces (head_step (bodies_in bodies.now)) t.now limit result }
 {
