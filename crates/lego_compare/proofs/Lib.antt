@@ -1,0 +1,14 @@
+pub mod AlikeLemmas
+pub mod BoundLemmas
+pub mod CauseLemmas
+pub mod DecidedLemmas
+pub mod DifferLemmas
+pub mod EndLemmas
+pub mod LevelLemmas
+pub mod PartLemmas
+pub mod ReachLemmas
+pub mod RootLemmas
+pub mod StepLemmas
+pub mod StepLevelLemmas
+pub mod WalkLemmas
+pub mod ZeroLemmas
