@@ -6,7 +6,7 @@ use Rattle.lego_term.specs.Parts.{Shape, Branch}
 use Rattle.lego_term.specs.Sequences.{HeadForm}
 use Rattle.lego_term.specs.declared.binder.Binder.{Binder}
 use Rattle.lego_laws.specs.Parallel.{CoreBodies, AreClosed}
-use Rattle.lego_laws.specs.Facing.{Order, Up, Both, order_at, crossed, Faces}
+use Rattle.lego_laws.specs.Facing.{Order, Cumulativity, Conversion, order_at, crossed, Faces}
 use Rattle.lego_laws.specs.Comparison.{AreInOrder, same_root}
 use Rattle.lego_laws.proofs.Differing.{difference_excludes_below, difference_excludes_conversion}
 use Rattle.lego_compare.specs.Answers.{RelatedAt, RootsRefute, DifferAt}
@@ -14,20 +14,20 @@ use Rattle.lego_compare.specs.Walks.{Differ, d_heads, FormsDiffer, d_here, d_par
 
 -- how the order in which a walk compares stands to that of its path, where the whole is compared in the first order
 abbrev Fits : Order → Order → Order → Type 0
-Fits Up o f = o ≡ f
-Fits Both o f = o ≡ Both
+Fits Cumulativity o f = o ≡ f
+Fits Conversion o f = o ≡ Conversion
 
 fits_at : (w o f : Order) (s : Shape) (i : ℕ) → Fits w o f → Fits w (order_at o s i) (order_at f s i)
-fits_at Up o f s i m = ap (λ z. order_at z s i) m
-fits_at Both o f s i m = ap (λ z. order_at z s i) m
+fits_at Cumulativity o f s i m = ap (λ z. order_at z s i) m
+fits_at Conversion o f s i m = ap (λ z. order_at z s i) m
 
-fits_whole : (w : Order) → Fits w w Up
-fits_whole Up = refl
-fits_whole Both = refl
+fits_whole : (w : Order) → Fits w w Cumulativity
+fits_whole Cumulativity = refl
+fits_whole Conversion = refl
 
 refute : (w o f : Order) (h k : Core) → Fits w o f → (AreInOrder o h k → ⊥) → RootsRefute w f h k
-refute Up o f h k m out = subst (λ z. AreInOrder z h k → ⊥) m out
-refute Both o f h k m out = λ s. out (same_root s)
+refute Cumulativity o f h k m out = subst (λ z. AreInOrder z h k → ⊥) m out
+refute Conversion o f h k m out = λ s. out (same_root s)
 
 crossed_more : (m n : ℕ) (p : Branch) → crossed m p + n ≡ m + crossed n p
 crossed_more m n p = by_binder p.under refl
@@ -55,12 +55,12 @@ module _ (b : CoreBodies) (t u : Core) where
         (found w (order_at o s i) (order_at f s i) p.term q.term l r (crossed m p) n (fits_at w o f s i fit) (λ h' k' hp hq. Faces.turn i faces e e' x y hp hq) d)
 
 never : (b : CoreBodies) → AreClosed b → (w : Order) (t u l r : Core) (n : ℕ) (f : Order) → Faces b t u f n l r → RootsRefute w f l r → (value : Level → ℕ) → RelatedAt value w b t u → ⊥
-never b closed Up t u l r n f faces out value p = difference_excludes_below b closed t u f n l r faces out value p
-never b closed Both t u l r n f faces out value p = difference_excludes_conversion b closed t u f n l r faces out value p
+never b closed Cumulativity t u l r n f faces out value p = difference_excludes_below b closed t u f n l r faces out value p
+never b closed Conversion t u l r n f faces out value p = difference_excludes_conversion b closed t u f n l r faces out value p
 
 pub differ_at : (b : CoreBodies) → AreClosed b → (w : Order) (t u l r : Core) (n : ℕ) → Differ b w t u n l r → DifferAt w b t u l r n
 differ_at b closed w t u l r n d =
-    let g = found b t u w w Up t u l r 0 n (fits_whole w) (λ h k p q. Faces.root p q) d in
+    let g = found b t u w w Cumulativity t u l r 0 n (fits_whole w) (λ h k p q. Faces.root p q) d in
     let e : 0 + n ≡ n = omega arith in
     let faces : Faces b t u g.f n l r = subst (λ z. Faces b t u g.f z l r) e g.faces in
     record { order = g.f; faces = faces; roots = g.roots; never = never b closed w t u l r n g.f faces g.roots }

@@ -7,7 +7,7 @@ use Rattle.lego_term.specs.Steps.{Converts}
 use Rattle.lego_term.specs.Below.{Below}
 use Rattle.lego_laws.specs.Parallel.{TermBodies, CoreBodies}
 use Rattle.lego_laws.specs.Cumulativity.{ByForm}
-use Rattle.lego_laws.specs.Facing.{Order, Up, Both}
+use Rattle.lego_laws.specs.Facing.{Order, Cumulativity, Conversion}
 use Rattle.lego_laws.specs.Comparison.{Related, valued, bodies_valued, Compared, m_equal, m_heads, FormsCompared, f_var, f_const, f_prop, f_prop_univ, f_univ, f_pi, f_lam, f_app, f_sigma, f_pair, f_fst, f_snd}
 use Rattle.lego_laws.proofs.CommonReducts.{pi_same, lam_same, app_same, sigma_same, pair_same, fst_same, snd_same}
 use Rattle.lego_laws.proofs.Below.{under-below}
@@ -16,12 +16,12 @@ use Rattle.lego_laws.proofs.Valued.{equal_valued, head_form_converts}
 use Rattle.lego_compare.specs.Answers.{RelatedAt}
 
 pi_related : (o : Order) (b : TermBodies) (a a' r r' : Term) → Converts b a a' → Related o b r r' → Related o b (Pi tt a r) (Pi tt a' r')
-pi_related Up b a a' r r' p q = Below.pi p q
-pi_related Both b a a' r r' p q = pi_same p q
+pi_related Cumulativity b a a' r r' p q = Below.pi p q
+pi_related Conversion b a a' r r' p q = pi_same p q
 
 sigma_related : (o : Order) (b : TermBodies) (a a' r r' : Term) → Related o b a a' → Related o b r r' → Related o b (Sigma tt a r) (Sigma tt a' r')
-sigma_related Up b a a' r r' p q = Below.sigma p q
-sigma_related Both b a a' r r' p q = sigma_same p q
+sigma_related Cumulativity b a a' r r' p q = Below.sigma p q
+sigma_related Conversion b a a' r r' p q = sigma_same p q
 
 equal_related : (o : Order) (b : TermBodies) (t u : Term) → t ≡ u → Related o b t u
 equal_related o b t u e = rw e (of_conversion o Converts.same)

@@ -8,7 +8,7 @@ use Rattle.lego_term.specs.Trees.{Core, Equal, levels_of, at}
 use Rattle.lego_term.specs.Parts.{IsTooLargeOnTheWay}
 use Rattle.lego_term.specs.Sequences.{normal_step, after, CostMoreThan}
 use Rattle.lego_laws.specs.Parallel.{CoreBodies, bodies_at}
-use Rattle.lego_laws.specs.Facing.{Order, Up, Both, Faces, SameRoot}
+use Rattle.lego_laws.specs.Facing.{Order, Cumulativity, Conversion, Faces, SameRoot}
 use Rattle.lego_laws.specs.Comparison.{Related, AreInOrder, valued, bodies_valued}
 use Rattle.lego_level.specs.declared.constraint.Constraint.{Constraint}
 use Rattle.lego_level.specs.Graphs.{pairs_of}
@@ -38,8 +38,8 @@ pub record IsDecidedBy (o : Order) (b : CoreBodies) (t u : Core) (place : Place)
 
 -- For "below" the roots are out of order on their path. For conversion they differ.
 abbrev pub RootsRefute : Order → Order → Core → Core → Type 0
-RootsRefute Up on_path left right = AreInOrder on_path left right → ⊥
-RootsRefute Both on_path left right = SameRoot left right → ⊥
+RootsRefute Cumulativity on_path left right = AreInOrder on_path left right → ⊥
+RootsRefute Conversion on_path left right = SameRoot left right → ⊥
 
 -- The two are head forms that one path of parts reaches from both sides, under `deeper` more binders. Their roots differ,
 -- and show that the terms are related at no values of the levels, 0 for all of them included.

@@ -12,15 +12,15 @@ use Rattle.lego_compare.specs.declared.stop.Side.{Side}
 use Rattle.lego_term.specs.Parts.{Branch}
 use Rattle.lego_term.specs.declared.level.Level.{Level}
 use Rattle.lego_term.specs.Trees.{Core, Var, Const, Prop, Univ, Pi, Lam, App, Sigma, Pair, Fst, Snd}
-use Rattle.lego_laws.specs.Facing.{Order, Up, Both}
+use Rattle.lego_laws.specs.Facing.{Order, Cumulativity, Conversion}
 use Rattle.lego_compare.specs.declared.relation.Relation.{Relation}
 use Rattle.lego_compare.specs.declared.relation.Relation.TheVariants.{Below, Same}
 use Rattle.lego_compare.specs.declared.roots.Roots.{Roots}
 use Rattle.lego_compare.specs.declared.roots.Roots.TheVariants.{Apart, Universes, Alike}
 
 abbrev pub order_of : Relation → Order
-order_of Below = Up
-order_of Same = Both
+order_of Below = Cumulativity
+order_of Same = Conversion
 
 abbrev pub relation_at : Relation → Core → ℕ → Relation
 relation_at r (Sigma x a b) i = r

@@ -2,7 +2,7 @@
 ghost use Rattle.std.specs.Prelude.{◌≡◌, ◌≤◌, IfOk, IfErr};
 ghost use Rattle.lego_term.specs.Trees.{Equal, loose};
 ghost use Rattle.lego_term.specs.BodyMap.{bodies_in, AreClosed};
-ghost use Rattle.lego_laws.specs.Facing.{Up, Both};
+ghost use Rattle.lego_laws.specs.Facing.{Cumulativity, Conversion};
 ghost use Rattle.lego_compare.specs.Answers.{IsDecidedBy, IsRefusedBy};
 ghost use Rattle.lego_compare.specs.Codes.{order_of, compare_fault};
 ghost use Rattle.lego_compare.specs.Causes.{LargeIn, Stopped, PassesIn};
@@ -32,8 +32,8 @@ pub fn below(
     requires left { loose a.now ≤ 63536 }
     requires right { loose b.now ≤ 63536 }
     requires closed { AreClosed bodies.now }
-    ensures decided { IfOk result (λ found. IsDecidedBy Up (bodies_in bodies.now) a.now b.now place found.items) }
-    ensures refused { IfErr result (λ fault. IsRefusedBy Up (bodies_in bodies.now) a.now b.now limit fault) }
+    ensures decided { IfOk result (λ found. IsDecidedBy Cumulativity (bodies_in bodies.now) a.now b.now place found.items) }
+    ensures refused { IfErr result (λ fault. IsRefusedBy Cumulativity (bodies_in bodies.now) a.now b.now limit fault) }
 {
     compared(alloc, bodies, Relation::Below, a, b, limit, place)
 }
@@ -50,8 +50,8 @@ pub fn same(
     requires left { loose a.now ≤ 63536 }
     requires right { loose b.now ≤ 63536 }
     requires closed { AreClosed bodies.now }
-    ensures decided { IfOk result (λ found. IsDecidedBy Both (bodies_in bodies.now) a.now b.now place found.items) }
-    ensures refused { IfErr result (λ fault. IsRefusedBy Both (bodies_in bodies.now) a.now b.now limit fault) }
+    ensures decided { IfOk result (λ found. IsDecidedBy Conversion (bodies_in bodies.now) a.now b.now place found.items) }
+    ensures refused { IfErr result (λ fault. IsRefusedBy Conversion (bodies_in bodies.now) a.now b.now limit fault) }
 {
     compared(alloc, bodies, Relation::Same, a, b, limit, place)
 }

@@ -8,12 +8,12 @@ use Rattle.lego_term.specs.Below.{Below}
 use Rattle.lego_laws.specs.Parallel.{TermBodies, CoreBodies, AreClosed, bodies_at}
 use Rattle.lego_laws.specs.Cumulativity.{ByForm}
 use Rattle.lego_laws.specs.HeadForms.{IsHeadForm, PartsBelow, at_lam, at_app, at_pair, at_fst, at_snd}
-use Rattle.lego_laws.specs.Facing.{Order, Up, Both}
-use Rattle.lego_laws.specs.Comparison.{Related, asked, Compared, m_equal, m_heads, FormsCompared, f_var, f_const, f_prop, f_prop_univ, f_univ, f_pi, f_lam, f_app, f_sigma, f_pair, f_fst, f_snd, ComparisonIsExact}
+use Rattle.lego_laws.specs.Facing.{Order, Cumulativity, Conversion}
+use Rattle.lego_laws.specs.Comparison.{Related, valued, bodies_valued, asked, Compared, m_equal, m_heads, FormsCompared, f_var, f_const, f_prop, f_prop_univ, f_univ, f_pi, f_lam, f_app, f_sigma, f_pair, f_fst, f_snd, ComparisonIsExact}
 use Rattle.lego_laws.proofs.CommonReducts.{joins, pi_same, lam_same, app_same, sigma_same, pair_same, fst_same, snd_same}
 use Rattle.lego_laws.proofs.Below.{convert_joined, under-below, pi_inverts, sigma_inverts, universes_invert}
 use Rattle.lego_laws.proofs.Head.{Ran, r_var, r_const, r_prop, r_univ, r_pi, r_lam, r_app, r_sigma, r_pair, r_fst, r_snd, ran, head_forms_compare}
-use Rattle.lego_laws.proofs.Satisfying.{satisfies_append, satisfies_front, satisfies_back}
+use Rattle.lego_laws.proofs.Satisfying.{InOrder, in_order_front, in_order_back, satisfies_append}
 use Rattle.lego_laws.proofs.Valued.{closed_valued, equal_valued, head_form_converts, head_form_valued}
 
 -- the forms agree, and the parts convert
@@ -48,54 +48,55 @@ parts_convert b closed t u e f p = let j = joins b closed p in met (ran j.left e
 
 -- in either order
 pub of_conversion : (o : Order) {b : TermBodies} {t u : Term} → Converts b t u → Related o b t u
-of_conversion Up p = Below.converts p
-of_conversion Both p = p
+of_conversion Cumulativity p = Below.converts p
+of_conversion Conversion p = p
 
 pub chain : (o : Order) (b : TermBodies) (t u v w : Term) → Converts b t u → Related o b u v → Converts b v w → Related o b t w
-chain Up b t u v w p q r = Below.chain (Below.converts p) (Below.chain q (Below.converts r))
-chain Both b t u v w p q r = Converts.chain p (Converts.chain q r)
+chain Cumulativity b t u v w p q r = Below.chain (Below.converts p) (Below.chain q (Below.converts r))
+chain Conversion b t u v w p q r = Converts.chain p (Converts.chain q r)
 
 pi_related : (o : Order) (b : TermBodies) (a a' r r' : Term) → Converts b a a' → Related o b r r' → Related o b (Pi tt a r) (Pi tt a' r')
-pi_related Up b a a' r r' p q = Below.pi p q
-pi_related Both b a a' r r' p q = pi_same p q
+pi_related Cumulativity b a a' r r' p q = Below.pi p q
+pi_related Conversion b a a' r r' p q = pi_same p q
 
 sigma_related : (o : Order) (b : TermBodies) (a a' r r' : Term) → Related o b a a' → Related o b r r' → Related o b (Sigma tt a r) (Sigma tt a' r')
-sigma_related Up b a a' r r' p q = Below.sigma p q
-sigma_related Both b a a' r r' p q = sigma_same p q
+sigma_related Cumulativity b a a' r r' p q = Below.sigma p q
+sigma_related Conversion b a a' r r' p q = sigma_same p q
 
-univ_related : (o : Order) (b : TermBodies) (v : Assignment) (l m : Level) → SatisfiesAll v (asked o l m) → Related o b (Univ (level_value v l)) (Univ (level_value v m))
-univ_related Up b v l m h = under-below (ByForm.universes h.0)
-univ_related Both b v l m h =
+univ_related : (o : Order) (b : TermBodies) (value : Level → ℕ) (l m : Level) → InOrder value (asked o l m) → Related o b (Univ (value l)) (Univ (value m))
+univ_related Cumulativity b value l m h = under-below (ByForm.universes h.0)
+univ_related Conversion b value l m h =
     let first = h.0 in
     let second = h.1.0 in
-    let e : level_value v l ≡ level_value v m = omega arith in
+    let e : value l ≡ value m = omega arith in
     rw e Converts.same
 
 equal_related : (o : Order) (b : TermBodies) (t u : Term) → t ≡ u → Related o b t u
 equal_related o b t u e = rw e (of_conversion o Converts.same)
 
-mutual
-  gathered : {b : CoreBodies} {o : Order} {t u : Core} {k : List LevelPair} → Compared b o t u k → (v : Assignment) → SatisfiesAll v k → Related o (bodies_at v b) (at v t) (at v u)
-  gathered {b} (m_equal {o = o} {t = t} {u = u} e) v h = equal_related o (bodies_at v b) (at v t) (at v u) (equal_valued (level_value v) t u e)
-  gathered (m_heads {o = o} p q c) v h =
-      chain o _ _ _ _ _ (head_form_converts (level_value v) p) (gathered_forms c v h) (Converts.back (head_form_converts (level_value v) q))
+module _ (value : Level → ℕ) where
+  -- where the gathered pairs are in order, the terms are related
+  mutual
+    pub gathered : {b : CoreBodies} {o : Order} {t u : Core} {k : List LevelPair} → Compared b o t u k → InOrder value k → Related o (bodies_valued value b) (valued value t) (valued value u)
+    gathered {b} (m_equal {o = o} {t = t} {u = u} e) h = equal_related o (bodies_valued value b) (valued value t) (valued value u) (equal_valued value t u e)
+    gathered (m_heads {o = o} p q c) h = chain o _ _ _ _ _ (head_form_converts value p) (gathered_forms c h) (Converts.back (head_form_converts value q))
 
-  gathered_forms : {b : CoreBodies} {o : Order} {t u : Core} {k : List LevelPair} → FormsCompared b o t u k → (v : Assignment) → SatisfiesAll v k → Related o (bodies_at v b) (at v t) (at v u)
-  gathered_forms (f_var {o = o}) v h = of_conversion o Converts.same
-  gathered_forms (f_const {o = o}) v h = of_conversion o Converts.same
-  gathered_forms (f_prop {o = o}) v h = of_conversion o Converts.same
-  gathered_forms f_prop_univ v h = under-below ByForm.prop
-  gathered_forms {b} (f_univ {o = o} {l = l} {m = m}) v h = univ_related o (bodies_at v b) v l m h
-  gathered_forms (f_pi {o = o} {k = k} {l = l} p q) v h = pi_related o _ _ _ _ _ (gathered p v (satisfies_front v k l h)) (gathered q v (satisfies_back v k l h))
-  gathered_forms (f_lam {o = o} {k = k} {l = l} p q) v h = of_conversion o (lam_same (gathered p v (satisfies_front v k l h)) (gathered q v (satisfies_back v k l h)))
-  gathered_forms (f_app {o = o} {k = k} {l = l} p q) v h = of_conversion o (app_same (gathered p v (satisfies_front v k l h)) (gathered q v (satisfies_back v k l h)))
-  gathered_forms (f_sigma {o = o} {k = k} {l = l} p q) v h = sigma_related o _ _ _ _ _ (gathered p v (satisfies_front v k l h)) (gathered q v (satisfies_back v k l h))
-  gathered_forms (f_pair {o = o} {k = k} {l = l} {p = i} {q = j} p q x y) v h =
-      let first = satisfies_front v (k ++ l) (i ++ j) h in
-      let second = satisfies_back v (k ++ l) (i ++ j) h in
-      of_conversion o (pair_same (gathered p v (satisfies_front v k l first)) (gathered q v (satisfies_back v k l first)) (gathered x v (satisfies_front v i j second)) (gathered y v (satisfies_back v i j second)))
-  gathered_forms (f_fst {o = o} p) v h = of_conversion o (fst_same (gathered p v h))
-  gathered_forms (f_snd {o = o} p) v h = of_conversion o (snd_same (gathered p v h))
+    gathered_forms : {b : CoreBodies} {o : Order} {t u : Core} {k : List LevelPair} → FormsCompared b o t u k → InOrder value k → Related o (bodies_valued value b) (valued value t) (valued value u)
+    gathered_forms (f_var {o = o}) h = of_conversion o Converts.same
+    gathered_forms (f_const {o = o}) h = of_conversion o Converts.same
+    gathered_forms (f_prop {o = o}) h = of_conversion o Converts.same
+    gathered_forms f_prop_univ h = under-below ByForm.prop
+    gathered_forms {b} (f_univ {o = o} {l = l} {m = m}) h = univ_related o (bodies_valued value b) value l m h
+    gathered_forms (f_pi {o = o} {k = k} {l = l} p q) h = pi_related o _ _ _ _ _ (gathered p (in_order_front value k l h)) (gathered q (in_order_back value k l h))
+    gathered_forms (f_lam {o = o} {k = k} {l = l} p q) h = of_conversion o (lam_same (gathered p (in_order_front value k l h)) (gathered q (in_order_back value k l h)))
+    gathered_forms (f_app {o = o} {k = k} {l = l} p q) h = of_conversion o (app_same (gathered p (in_order_front value k l h)) (gathered q (in_order_back value k l h)))
+    gathered_forms (f_sigma {o = o} {k = k} {l = l} p q) h = sigma_related o _ _ _ _ _ (gathered p (in_order_front value k l h)) (gathered q (in_order_back value k l h))
+    gathered_forms (f_pair {o = o} {k = k} {l = l} {p = i} {q = j} p q x y) h =
+        let first = in_order_front value (k ++ l) (i ++ j) h in
+        let second = in_order_back value (k ++ l) (i ++ j) h in
+        of_conversion o (pair_same (gathered p (in_order_front value k l first)) (gathered q (in_order_back value k l first)) (gathered x (in_order_front value i j second)) (gathered y (in_order_back value i j second)))
+    gathered_forms (f_fst {o = o} p) h = of_conversion o (fst_same (gathered p h))
+    gathered_forms (f_snd {o = o} p) h = of_conversion o (snd_same (gathered p h))
 
 -- the other way
 univ_same : {b : TermBodies} {x y : ℕ} → PartsConvert b (Univ x) (Univ y) → (x ≤ y) × (y ≤ x)
@@ -109,21 +110,21 @@ sigma_pair (k_sigma p q) = (p, q)
 
 module _ (b : TermBodies) (closed : AreClosed b) where
   need_univ : (o : Order) (v : Assignment) (l m : Level) → Related o b (Univ (level_value v l)) (Univ (level_value v m)) → SatisfiesAll v (asked o l m)
-  need_univ Up v l m h = (universes_invert b closed (level_value v l) (level_value v m) h, tt)
-  need_univ Both v l m h = let s = univ_same (parts_convert b closed (Univ (level_value v l)) (Univ (level_value v m)) refl refl h) in (s.0, (s.1, tt))
+  need_univ Cumulativity v l m h = (universes_invert b closed (level_value v l) (level_value v m) h, tt)
+  need_univ Conversion v l m h = let s = univ_same (parts_convert b closed (Univ (level_value v l)) (Univ (level_value v m)) refl refl h) in (s.0, (s.1, tt))
 
   pub need_pi : (o : Order) (a a' r r' : Term) → Related o b (Pi tt a r) (Pi tt a' r') → Converts b a a' × Related o b r r'
-  need_pi Up a a' r r' h = pi_inverts b closed a r a' r' h
-  need_pi Both a a' r r' h = pi_pair (parts_convert b closed (Pi tt a r) (Pi tt a' r') refl refl h)
+  need_pi Cumulativity a a' r r' h = pi_inverts b closed a r a' r' h
+  need_pi Conversion a a' r r' h = pi_pair (parts_convert b closed (Pi tt a r) (Pi tt a' r') refl refl h)
 
   pub need_sigma : (o : Order) (a a' r r' : Term) → Related o b (Sigma tt a r) (Sigma tt a' r') → Related o b a a' × Related o b r r'
-  need_sigma Up a a' r r' h = sigma_inverts b closed a r a' r' h
-  need_sigma Both a a' r r' h = sigma_pair (parts_convert b closed (Sigma tt a r) (Sigma tt a' r') refl refl h)
+  need_sigma Cumulativity a a' r r' h = sigma_inverts b closed a r a' r' h
+  need_sigma Conversion a a' r r' h = sigma_pair (parts_convert b closed (Sigma tt a r) (Sigma tt a' r') refl refl h)
 
   -- the other forms convert in either order
   pub as_parts : (o : Order) (t u : Term) → IsHeadForm b t → IsHeadForm b u → Related o b t u → PartsBelow b t u
-  as_parts Up t u e f h = (head_forms_compare b closed t u e f).0 h
-  as_parts Both t u e f h = (head_forms_compare b closed t u e f).0 (Below.converts h)
+  as_parts Cumulativity t u e f h = (head_forms_compare b closed t u e f).0 h
+  as_parts Conversion t u e f h = (head_forms_compare b closed t u e f).0 (Below.converts h)
 
 pub lam_parts : {b : TermBodies} {a a' r r' : Term} → PartsBelow b (Lam tt a r) (Lam tt a' r') → Converts b a a' × Converts b r r'
 lam_parts (at_lam p q) = (p, q)
@@ -179,4 +180,4 @@ module _ (b : CoreBodies) (closed : AreClosed b) (v : Assignment) where
     needed_forms (f_snd {o = o} {m = m} {m' = m'} p) e f h = needed p (snd_parts (pair_of o (Snd m) (Snd m') e f h))
 
 pub comparison_is_exact : ComparisonIsExact
-comparison_is_exact b closed o t u k c v = (gathered c v, needed b closed v c)
+comparison_is_exact b closed o t u k c v = (gathered (level_value v) c, needed b closed v c)

@@ -8,7 +8,7 @@ use Rattle.lego_term.specs.Below.{Below}
 use Rattle.lego_term.specs.Sequences.{HeadForm}
 use Rattle.lego_laws.specs.Parallel.{TermBodies, CoreBodies, AreClosed}
 use Rattle.lego_laws.specs.HeadForms.{IsHeadForm, PartsBelow, at_var, at_const}
-use Rattle.lego_laws.specs.Facing.{Order, Up, Both, order_at, Faces, SameRoot}
+use Rattle.lego_laws.specs.Facing.{Order, Cumulativity, Conversion, order_at, Faces, SameRoot}
 use Rattle.lego_laws.specs.Comparison.{valued, bodies_valued, Related, AreInOrder, same_root, prop_below, DifferenceExcludesBelow, DifferenceExcludesConversion, FacingPartsAreRelated}
 use Rattle.lego_laws.proofs.Valued.{closed_valued, head_form_converts, head_form_valued}
 use Rattle.lego_laws.proofs.Comparing.{PartsConvert, k_var, k_const, parts_convert, chain, need_pi, need_sigma, as_parts, lam_parts, app_parts, pair_parts, fst_parts, snd_parts}
@@ -45,26 +45,26 @@ module _ (b : CoreBodies) (closed : AreClosed b) (value : Level → ℕ) where
   as_pairs o c d = as_parts (bodies_valued value b) bodies_closed o (valued value c) (valued value d)
 
   parts_related : (o : Order) (c d : Core) → shape_of c ≡ shape_of d → IsHeadForm (bodies_valued value b) (valued value c) → IsHeadForm (bodies_valued value b) (valued value d) → Related o (bodies_valued value b) (valued value c) (valued value d) → AllRelated (orders o (shape_of c)) (parts_of c) (parts_of d)
-  parts_related Up (Pi x a r) (Pi y a' r') e f g h = let s = need_pi (bodies_valued value b) bodies_closed Up _ _ _ _ h in (s.0, (s.1, tt))
-  parts_related Both (Pi x a r) (Pi y a' r') e f g h = let s = need_pi (bodies_valued value b) bodies_closed Both _ _ _ _ h in (s.0, (s.1, tt))
+  parts_related Cumulativity (Pi x a r) (Pi y a' r') e f g h = let s = need_pi (bodies_valued value b) bodies_closed Cumulativity _ _ _ _ h in (s.0, (s.1, tt))
+  parts_related Conversion (Pi x a r) (Pi y a' r') e f g h = let s = need_pi (bodies_valued value b) bodies_closed Conversion _ _ _ _ h in (s.0, (s.1, tt))
   parts_related o (Pi x a r) d e f g h = cc
-  parts_related Up (Sigma x a r) (Sigma y a' r') e f g h = let s = need_sigma (bodies_valued value b) bodies_closed Up _ _ _ _ h in (s.0, (s.1, tt))
-  parts_related Both (Sigma x a r) (Sigma y a' r') e f g h = let s = need_sigma (bodies_valued value b) bodies_closed Both _ _ _ _ h in (s.0, (s.1, tt))
+  parts_related Cumulativity (Sigma x a r) (Sigma y a' r') e f g h = let s = need_sigma (bodies_valued value b) bodies_closed Cumulativity _ _ _ _ h in (s.0, (s.1, tt))
+  parts_related Conversion (Sigma x a r) (Sigma y a' r') e f g h = let s = need_sigma (bodies_valued value b) bodies_closed Conversion _ _ _ _ h in (s.0, (s.1, tt))
   parts_related o (Sigma x a r) d e f g h = cc
-  parts_related Up (Lam x a r) (Lam y a' r') e f g h = let s = lam_parts (as_pairs Up (Lam x a r) (Lam y a' r') f g h) in (s.0, (s.1, tt))
-  parts_related Both (Lam x a r) (Lam y a' r') e f g h = let s = lam_parts (as_pairs Both (Lam x a r) (Lam y a' r') f g h) in (s.0, (s.1, tt))
+  parts_related Cumulativity (Lam x a r) (Lam y a' r') e f g h = let s = lam_parts (as_pairs Cumulativity (Lam x a r) (Lam y a' r') f g h) in (s.0, (s.1, tt))
+  parts_related Conversion (Lam x a r) (Lam y a' r') e f g h = let s = lam_parts (as_pairs Conversion (Lam x a r) (Lam y a' r') f g h) in (s.0, (s.1, tt))
   parts_related o (Lam x a r) d e f g h = cc
-  parts_related Up (App x a r) (App y a' r') e f g h = let s = app_parts (as_pairs Up (App x a r) (App y a' r') f g h) in (s.0, (s.1, tt))
-  parts_related Both (App x a r) (App y a' r') e f g h = let s = app_parts (as_pairs Both (App x a r) (App y a' r') f g h) in (s.0, (s.1, tt))
+  parts_related Cumulativity (App x a r) (App y a' r') e f g h = let s = app_parts (as_pairs Cumulativity (App x a r) (App y a' r') f g h) in (s.0, (s.1, tt))
+  parts_related Conversion (App x a r) (App y a' r') e f g h = let s = app_parts (as_pairs Conversion (App x a r) (App y a' r') f g h) in (s.0, (s.1, tt))
   parts_related o (App x a r) d e f g h = cc
-  parts_related Up (Pair x a r m n) (Pair y a' r' m' n') e f g h = let s = pair_parts (as_pairs Up (Pair x a r m n) (Pair y a' r' m' n') f g h) in (s.0, (s.1, (s.2, (s.3, tt))))
-  parts_related Both (Pair x a r m n) (Pair y a' r' m' n') e f g h = let s = pair_parts (as_pairs Both (Pair x a r m n) (Pair y a' r' m' n') f g h) in (s.0, (s.1, (s.2, (s.3, tt))))
+  parts_related Cumulativity (Pair x a r m n) (Pair y a' r' m' n') e f g h = let s = pair_parts (as_pairs Cumulativity (Pair x a r m n) (Pair y a' r' m' n') f g h) in (s.0, (s.1, (s.2, (s.3, tt))))
+  parts_related Conversion (Pair x a r m n) (Pair y a' r' m' n') e f g h = let s = pair_parts (as_pairs Conversion (Pair x a r m n) (Pair y a' r' m' n') f g h) in (s.0, (s.1, (s.2, (s.3, tt))))
   parts_related o (Pair x a r m n) d e f g h = cc
-  parts_related Up (Fst m) (Fst m') e f g h = (fst_parts (as_pairs Up (Fst m) (Fst m') f g h), tt)
-  parts_related Both (Fst m) (Fst m') e f g h = (fst_parts (as_pairs Both (Fst m) (Fst m') f g h), tt)
+  parts_related Cumulativity (Fst m) (Fst m') e f g h = (fst_parts (as_pairs Cumulativity (Fst m) (Fst m') f g h), tt)
+  parts_related Conversion (Fst m) (Fst m') e f g h = (fst_parts (as_pairs Conversion (Fst m) (Fst m') f g h), tt)
   parts_related o (Fst m) d e f g h = cc
-  parts_related Up (Snd m) (Snd m') e f g h = (snd_parts (as_pairs Up (Snd m) (Snd m') f g h), tt)
-  parts_related Both (Snd m) (Snd m') e f g h = (snd_parts (as_pairs Both (Snd m) (Snd m') f g h), tt)
+  parts_related Cumulativity (Snd m) (Snd m') e f g h = (snd_parts (as_pairs Cumulativity (Snd m) (Snd m') f g h), tt)
+  parts_related Conversion (Snd m) (Snd m') e f g h = (snd_parts (as_pairs Conversion (Snd m) (Snd m') f g h), tt)
   parts_related o (Snd m) d e f g h = cc
   parts_related o _ d e f g h = tt
 
@@ -87,19 +87,19 @@ module _ (b : CoreBodies) (closed : AreClosed b) (value : Level → ℕ) where
       }
 
   facing : {t u : Core} {o : Order} {n : ℕ} {h k : Core} → Faces b t u o n h k → Below (bodies_valued value b) (valued value t) (valued value u) → Stand o h k
-  facing (Faces.root p q) r = headed Up _ _ _ _ p q r
+  facing (Faces.root p q) r = headed Cumulativity _ _ _ _ p q r
   facing (Faces.turn {o = o} {c = c} {d = d} {h = h} {k = k} {s = s} {p = p} {q = q} i f e e' x y l m) r =
       let w = facing f r in
       headed (order_at o s i) p.term q.term h k l m (part_related o c d s i p q e e' x y w.left w.right w.related)
 
-  both_at : (s : Shape) (i : ℕ) → order_at Both s i ≡ Both
+  both_at : (s : Shape) (i : ℕ) → order_at Conversion s i ≡ Conversion
   both_at s i = refl
 
-  facing_converts : {t u : Core} {o : Order} {n : ℕ} {h k : Core} → Faces b t u o n h k → Converts (bodies_valued value b) (valued value t) (valued value u) → Stand Both h k
-  facing_converts (Faces.root p q) r = headed Both _ _ _ _ p q r
+  facing_converts : {t u : Core} {o : Order} {n : ℕ} {h k : Core} → Faces b t u o n h k → Converts (bodies_valued value b) (valued value t) (valued value u) → Stand Conversion h k
+  facing_converts (Faces.root p q) r = headed Conversion _ _ _ _ p q r
   facing_converts (Faces.turn {c = c} {d = d} {h = h} {k = k} {s = s} {p = p} {q = q} i f e e' x y l m) r =
       let w = facing_converts f r in
-      headed Both p.term q.term h k l m (part_related Both c d s i p q e e' x y w.left w.right w.related)
+      headed Conversion p.term q.term h k l m (part_related Conversion c d s i p q e e' x y w.left w.right w.related)
 
   var_is : {i j : ℕ} → PartsBelow (bodies_valued value b) (Var i) (Var j) → i ≡ j
   var_is at_var = refl
@@ -113,9 +113,9 @@ module _ (b : CoreBodies) (closed : AreClosed b) (value : Level → ℕ) where
   const_same : {i j : ℕ} → PartsConvert (bodies_valued value b) (Const i) (Const j) → i ≡ j
   const_same k_const = refl
 
-  roots_in_order : (h k : Core) → PartsBelow (bodies_valued value b) (valued value h) (valued value k) → AreInOrder Up h k
-  roots_in_order (Var i) (Var j) p = subst (λ z. AreInOrder Up (Var i) (Var z)) (var_is p) (same_root SameRoot.variable)
-  roots_in_order (Const i) (Const j) p = subst (λ z. AreInOrder Up (Const i) (Const z)) (const_is p) (same_root SameRoot.constant)
+  roots_in_order : (h k : Core) → PartsBelow (bodies_valued value b) (valued value h) (valued value k) → AreInOrder Cumulativity h k
+  roots_in_order (Var i) (Var j) p = subst (λ z. AreInOrder Cumulativity (Var i) (Var z)) (var_is p) (same_root SameRoot.variable)
+  roots_in_order (Const i) (Const j) p = subst (λ z. AreInOrder Cumulativity (Const i) (Const z)) (const_is p) (same_root SameRoot.constant)
   roots_in_order Prop Prop p = same_root SameRoot.prop
   roots_in_order Prop (Univ l) p = prop_below
   roots_in_order (Univ l) (Univ m) p = same_root SameRoot.universes
@@ -142,12 +142,12 @@ module _ (b : CoreBodies) (closed : AreClosed b) (value : Level → ℕ) where
   roots_agree (Snd m) (Snd m') p = SameRoot.parts refl refl
   roots_agree _ _ p = elim p [ ]
 
-  conversion_agrees : (h k : Core) → Stand Both h k → SameRoot h k
+  conversion_agrees : (h k : Core) → Stand Conversion h k → SameRoot h k
   conversion_agrees h k w = roots_agree h k (parts_convert (bodies_valued value b) bodies_closed (valued value h) (valued value k) w.left w.right w.related)
 
   in_order : (o : Order) (h k : Core) → Stand o h k → AreInOrder o h k
-  in_order Up h k w = roots_in_order h k (as_pairs Up h k w.left w.right w.related)
-  in_order Both h k w = same_root (conversion_agrees h k w)
+  in_order Cumulativity h k w = roots_in_order h k (as_pairs Cumulativity h k w.left w.right w.related)
+  in_order Conversion h k w = same_root (conversion_agrees h k w)
 
 pub facing_parts_are_related : FacingPartsAreRelated
 facing_parts_are_related b closed t u o n h k f value p = (facing b closed value f p).related

@@ -29,6 +29,7 @@ pub mod Replaced
 pub mod ReplacementLaws
 pub mod Closing
 pub mod Agreeing
+pub mod LevelsKept
 pub mod LevelsWithin
 pub mod Bounded
 pub mod Highest

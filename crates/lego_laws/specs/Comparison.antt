@@ -9,7 +9,7 @@ use Rattle.lego_term.specs.Steps.{Converts}
 use Rattle.lego_term.specs.Below.{Below}
 use Rattle.lego_term.specs.Sequences.{HeadForm}
 use Rattle.lego_laws.specs.Parallel.{TermBodies, CoreBodies, AreClosed, bodies_at}
-use Rattle.lego_laws.specs.Facing.{Order, Up, Both, Faces, SameRoot}
+use Rattle.lego_laws.specs.Facing.{Order, Cumulativity, Conversion, Faces, SameRoot}
 
 -- the term, and the bodies, with a number for each level and without names and marks
 abbrev pub valued : (Level → ℕ) → Core → Term
@@ -20,13 +20,13 @@ bodies_valued h b k = option_map (valued h) (b k)
 
 -- whether the first is to be below the second, or to convert with it
 abbrev pub Related : Order → TermBodies → Term → Term → Type 0
-Related Up b t u = Below b t u
-Related Both b t u = Converts b t u
+Related Cumulativity b t u = Below b t u
+Related Conversion b t u = Converts b t u
 
 -- what two universes that face one another ask
 abbrev pub asked : Order → Level → Level → List LevelPair
-asked Up l m = record { low = l; high = m } ∷ []
-asked Both l m = record { low = l; high = m } ∷ record { low = m; high = l } ∷ []
+asked Cumulativity l m = record { low = l; high = m } ∷ []
+asked Conversion l m = record { low = l; high = m } ∷ record { low = m; high = l } ∷ []
 
 mutual
   -- the terms are equal, or their head forms are compared
@@ -40,21 +40,21 @@ mutual
     f_var : {o : Order} {i : ℕ} → FormsCompared b o (Var i) (Var i) []
     f_const : {o : Order} {k : ℕ} → FormsCompared b o (Const k) (Const k) []
     f_prop : {o : Order} → FormsCompared b o Prop Prop []
-    f_prop_univ : {l : Level} → FormsCompared b Up Prop (Univ l) []
+    f_prop_univ : {l : Level} → FormsCompared b Cumulativity Prop (Univ l) []
     f_univ : {o : Order} {l m : Level} → FormsCompared b o (Univ l) (Univ m) (asked o l m)
     f_pi : {o : Order} {x y : Binder} {a a' r r' : Core} {k l : List LevelPair}
-        → Compared b Both a a' k → Compared b o r r' l → FormsCompared b o (Pi x a r) (Pi y a' r') (k ++ l)
+        → Compared b Conversion a a' k → Compared b o r r' l → FormsCompared b o (Pi x a r) (Pi y a' r') (k ++ l)
     f_lam : {o : Order} {x y : Binder} {a a' r r' : Core} {k l : List LevelPair}
-        → Compared b Both a a' k → Compared b Both r r' l → FormsCompared b o (Lam x a r) (Lam y a' r') (k ++ l)
+        → Compared b Conversion a a' k → Compared b Conversion r r' l → FormsCompared b o (Lam x a r) (Lam y a' r') (k ++ l)
     f_app : {o : Order} {x y : Mark} {a a' r r' : Core} {k l : List LevelPair}
-        → Compared b Both a a' k → Compared b Both r r' l → FormsCompared b o (App x a r) (App y a' r') (k ++ l)
+        → Compared b Conversion a a' k → Compared b Conversion r r' l → FormsCompared b o (App x a r) (App y a' r') (k ++ l)
     f_sigma : {o : Order} {x y : Binder} {a a' r r' : Core} {k l : List LevelPair}
         → Compared b o a a' k → Compared b o r r' l → FormsCompared b o (Sigma x a r) (Sigma y a' r') (k ++ l)
     f_pair : {o : Order} {x y : Binder} {a a' r r' m m' n n' : Core} {k l p q : List LevelPair}
-        → Compared b Both a a' k → Compared b Both r r' l → Compared b Both m m' p → Compared b Both n n' q
+        → Compared b Conversion a a' k → Compared b Conversion r r' l → Compared b Conversion m m' p → Compared b Conversion n n' q
         → FormsCompared b o (Pair x a r m n) (Pair y a' r' m' n') ((k ++ l) ++ (p ++ q))
-    f_fst : {o : Order} {m m' : Core} {k : List LevelPair} → Compared b Both m m' k → FormsCompared b o (Fst m) (Fst m') k
-    f_snd : {o : Order} {m m' : Core} {k : List LevelPair} → Compared b Both m m' k → FormsCompared b o (Snd m) (Snd m') k
+    f_fst : {o : Order} {m m' : Core} {k : List LevelPair} → Compared b Conversion m m' k → FormsCompared b o (Fst m) (Fst m') k
+    f_snd : {o : Order} {m m' : Core} {k : List LevelPair} → Compared b Conversion m m' k → FormsCompared b o (Snd m) (Snd m') k
 
 -- the gathered constraints are satisfied exactly where the relation holds
 abbrev pub ComparisonIsExact : Type 0
@@ -65,7 +65,7 @@ ComparisonIsExact =
 -- the roots agree, or are `Prop` and a universe that is to be above it
 pub data AreInOrder : Order → Core → Core → Type 0 where
   same_root : {o : Order} {h k : Core} → SameRoot h k → AreInOrder o h k
-  prop_below : {l : Level} → AreInOrder Up Prop (Univ l)
+  prop_below : {l : Level} → AreInOrder Cumulativity Prop (Univ l)
 
 -- head forms that face one another, with roots out of order, exclude that the first is below the second, whatever the levels are
 abbrev pub DifferenceExcludesBelow : Type 0

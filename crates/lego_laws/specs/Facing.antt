@@ -9,14 +9,14 @@ use Rattle.lego_term.specs.Sequences.{HeadForm}
 
 -- how the two sides of a path are compared
 pub data Order : Type 0 where
-  Up Both : Order
+  Cumulativity Conversion : Order
 
 -- bodies of products and the parts of Sigma types are compared as the whole is, all other parts by conversion
 abbrev pub order_at : Order → Shape → ℕ → Order
-order_at Both s i = Both
-order_at Up ASigma i = Up
-order_at Up APi (suc i) = Up
-order_at Up _ i = Both
+order_at Conversion s i = Conversion
+order_at Cumulativity ASigma i = Cumulativity
+order_at Cumulativity APi (suc i) = Cumulativity
+order_at Cumulativity _ i = Conversion
 
 -- the binders crossed, with those above the part
 abbrev pub crossed : ℕ → Branch → ℕ
@@ -28,7 +28,7 @@ crossed n b = above n b.under
 
 -- one path of parts reaches the two head forms from both sides, under so many more binders; a head form is taken at each turn
 pub data Faces (bodies : Bodies Binder Mark Level) (a b : Core) : Order → ℕ → Core → Core → Type 0 where
-  root : {h k : Core} → HeadForm bodies a h → HeadForm bodies b k → Faces bodies a b Up 0 h k
+  root : {h k : Core} → HeadForm bodies a h → HeadForm bodies b k → Faces bodies a b Cumulativity 0 h k
   turn : {o : Order} {n : ℕ} {c d h k : Core} {s : Shape} {p q : Branch} (i : ℕ)
       → Faces bodies a b o n c d → shape_of c ≡ Some s → shape_of d ≡ Some s
       → slice_get (parts_of c) i ≡ Some p → slice_get (parts_of d) i ≡ Some q
@@ -37,7 +37,7 @@ pub data Faces (bodies : Bodies Binder Mark Level) (a b : Core) : Order → ℕ 
 -- low <= high is asked of two universes that face one another
 pub data Asks : Order → Level → Level → Level → Level → Type 0 where
   up : {o : Order} {l m : Level} → Asks o l m l m
-  down : {l m : Level} → Asks Both l m m l
+  down : {l m : Level} → Asks Conversion l m m l
 
 -- two head forms have one root, or both are universes
 pub data SameRoot : Core → Core → Type 0 where
@@ -46,9 +46,3 @@ pub data SameRoot : Core → Core → Type 0 where
   prop : SameRoot Prop Prop
   universes : {l m : Level} → SameRoot (Univ l) (Univ m)
   parts : {h k : Core} {s : Shape} → shape_of h ≡ Some s → shape_of k ≡ Some s → SameRoot h k
-
--- two terms are found to differ: at head forms that face one another, whose roots differ
-pub record DiffersAt (bodies : Bodies Binder Mark Level) (a b left right : Core) (deeper : ℕ) : Type 0 where
-  pub order : Order
-  pub faces : Faces bodies a b order deeper left right
-  pub roots : SameRoot left right → ⊥
