@@ -88,7 +88,7 @@ forms_compared b r _ _ l e s = cc
 
 pub forms_pass : (b : CoreBodies) (r : Relation) (h k : Core) (limit room before : ℕ) (place : Place) (old new : List Constraint) (result : Result ℕ Stop) → roots_of r h k ≡ Alike → PartsWalk b r h k 0 limit room before place old new result → FormsWalk b r h k limit room before place old new result
 forms_pass b r h k limit room before place old new (Ok steps) e w =
-    record { more = w.more; added = w.added; compared = forms_compared b r h k (pairs_of w.more) e w.compared; left = w.left; right = w.right; walked = w.walked; sum = w.sum; within = w.within; placed = w.placed; levels = w.levels }
+    record { more = w.more; added = w.added; compared = forms_compared b r h k (pairs_of w.more) e w.compared; left = w.left; right = w.right; walked = w.walked; sum = w.sum; within = w.within; placed = w.placed }
 forms_pass b r h k limit room before place old new (Err why) e w = w
 
 abbrev arity : (t : Core) → Option Shape → ℕ

@@ -1,5 +1,5 @@
 -- What a stopped walk says of the whole sequences.
-use Rattle.std.proofs.Common.{◌≡◌, ℕ, suc, Ok, Err, refl, subst, arith}
+use Rattle.std.proofs.Common.{◌≡◌, ℕ, suc, Ok, Err, inl, inr, refl, subst, arith}
 use Rattle.lego_term.specs.Trees.{Core, Equal}
 use Rattle.lego_term.specs.Sequences.{normal_step, CostMoreThan, MoreThan}
 use Rattle.lego_laws.specs.Parallel.{CoreBodies, AreClosed}
@@ -14,7 +14,7 @@ use Rattle.lego_term.specs.Parts.{tree}
 use Rattle.lego_compare.specs.declared.fault.CompareFault.{CompareFault}
 use Rattle.lego_compare.specs.declared.fault.CompareFault.TheVariants.{Differ, Budget, TooLarge, Memory}
 use Rattle.lego_compare.specs.Codes.{compare_fault}
-use Rattle.lego_compare.specs.Answers.{DifferAt, IsRefusedBy, of_left, of_right}
+use Rattle.lego_compare.specs.Answers.{DifferAt, IsRefusedBy}
 use Rattle.lego_compare.specs.Causes.{PassesIn, LargeIn}
 use Rattle.lego_compare.specs.Walks.{Differ as Differing, Apart, TooMany}
 use Rattle.lego_compare.proofs.DifferLemmas.{differ_at}
@@ -38,13 +38,13 @@ costly_right b t u limit m = (0, suc limit, omega arith, t, m.0, refl, m.1)
 pub from_left : (b : CoreBodies) (o : Order) (t u : Core) (limit : ℕ) (fault : CompareFault) → (Equal t u → ⊥) → PassesIn b t limit fault → IsRefusedBy o b t u limit fault
 from_left b o t u limit (Differ l r n) d p = absurd p
 from_left b o t u limit Budget d p = (costly_left b t u limit p, d)
-from_left b o t u limit (TooLarge nodes levels) d p = (of_left p, d)
+from_left b o t u limit (TooLarge nodes levels) d p = (inl p, d)
 from_left b o t u limit Memory d p = tt
 
 pub from_right : (b : CoreBodies) (o : Order) (t u : Core) (limit : ℕ) (fault : CompareFault) → (Equal t u → ⊥) → PassesIn b u limit fault → IsRefusedBy o b t u limit fault
 from_right b o t u limit (Differ l r n) d p = absurd p
 from_right b o t u limit Budget d p = (costly_right b t u limit p, d)
-from_right b o t u limit (TooLarge nodes levels) d p = (of_right p, d)
+from_right b o t u limit (TooLarge nodes levels) d p = (inr p, d)
 from_right b o t u limit Memory d p = tt
 
 -- a refusal of the term's own reduction

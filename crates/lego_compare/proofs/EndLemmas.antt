@@ -15,7 +15,6 @@ use Rattle.lego_laws.specs.Comparison.{FormsCompared, f_univ, asked}
 use Rattle.lego_compare.specs.declared.relation.Relation.{Relation}
 use Rattle.lego_compare.specs.declared.relation.Relation.TheVariants.{Below, Same}
 use Rattle.lego_compare.specs.declared.roots.Roots.TheVariants.{Universes}
-use Rattle.lego_compare.specs.Answers.{AreLevelsOf}
 use Rattle.lego_compare.specs.Codes.{order_of, roots_of, alike_if_equal, asked_at, term_of}
 use Rattle.lego_compare.specs.Walks.{c_none, FormsWalk, PartsWalk}
 use Rattle.lego_compare.proofs.PartLemmas.{drop_none}
@@ -57,15 +56,6 @@ asked_placed : (r : Relation) (l m : Level) (place : Place) → All (λ c. c.pla
 asked_placed Below l m place = one_of_one (λ c. c.place ≡ Some place) (between l m place) refl
 asked_placed Same l m place = both_of_two (λ c. c.place ≡ Some place) (between l m place) (between m l place) refl refl
 
-both_hold : (a b : Bool) → (a && true) ≡ true → (b && true) ≡ true → IsTrue (a && b)
-both_hold true true e f = refl
-both_hold true false e f = cc
-both_hold false b e f = cc
-
-asked_levels : (b : CoreBodies) (r : Relation) (l m : Level) (place : Place) → AreLevelsOf b (Univ l) (Univ m) (asked_at r l m place)
-asked_levels b Below l m place = λ p x y z. one_of_one (λ c. IsTrue (p c.low && p c.high)) (between l m place) (both_hold (p l) (p m) x y)
-asked_levels b Same l m place = λ p x y z. both_of_two (λ c. IsTrue (p c.low && p c.high)) (between l m place) (between m l place) (both_hold (p l) (p m) x y) (both_hold (p m) (p l) y x)
-
 -- two universes ask their constraints
 pub universes_pass : (b : CoreBodies) (r : Relation) (h k : Core) (l m : Level) (limit room before : ℕ) (place : Place) (old new : List Constraint)
     → roots_of r h k ≡ Universes l m → new ≡ old ++ asked_at r l m place → FormsWalk b r h k limit room before place old new (Ok 0)
@@ -81,7 +71,6 @@ universes_pass b r h k l m limit room before place old new e added =
       sum = refl;
       within = omega arith;
       placed = asked_placed r l m place;
-      levels = asked_levels b r l m place;
     })
 
 no_part : (t : Core) (i : ℕ) → None ≡ option_map term_of (slice_get (parts_of t) i) → drop i (parts_of t) ≡ []
@@ -104,7 +93,6 @@ none_left b r h k i limit room before place old x y =
       sum = refl;
       within = omega arith;
       placed = All-nil _;
-      levels = λ p l m n. All-nil _;
     })
 
 -- behind the last part of the left head form, and of the right one

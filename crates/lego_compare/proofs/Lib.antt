@@ -1,4 +1,5 @@
 pub mod AlikeLemmas
+pub mod AskedLemmas
 pub mod BoundLemmas
 pub mod CauseLemmas
 pub mod DecidedLemmas
@@ -9,6 +10,4 @@ pub mod PartLemmas
 pub mod ReachLemmas
 pub mod RootLemmas
 pub mod StepLemmas
-pub mod StepLevelLemmas
 pub mod WalkLemmas
-pub mod ZeroLemmas

@@ -10,8 +10,6 @@ use Rattle.lego_laws.specs.Parallel.{CoreBodies}
 use Rattle.lego_laws.specs.Counting.{Walked, PartsWalked, next_part}
 use Rattle.lego_laws.specs.Comparison.{Compared}
 use Rattle.lego_level.specs.Graphs.{pair_of, pairs_of}
-use Rattle.lego_compare.specs.Answers.{AreLevelsOf}
-use Rattle.lego_compare.proofs.LevelLemmas.{levels_of_parts}
 use Rattle.lego_laws.specs.Facing.{order_at, crossed}
 use Rattle.lego_compare.specs.declared.relation.Relation.{Relation}
 use Rattle.lego_compare.specs.declared.stop.Stop.{Stop}
@@ -102,9 +100,6 @@ both_pass b r h k left right i limit steps more place old mid new x y w rest =
     let walked2 = subst (λ z. Walked b p.p.term z w.left w.right) (sym q.is) walked1 in
     let compared1 = subst (λ z. Compared b (order_of (relation_at r h i)) z right (pairs_of w.more)) (sym p.is) w.compared in
     let compared2 = subst (λ z. Compared b (order_of (relation_at r h i)) p.p.term z (pairs_of w.more)) (sym q.is) compared1 in
-    let levels1 = subst (λ z. AreLevelsOf b z right w.more) (sym p.is) w.levels in
-    let levels2 = subst (λ z. AreLevelsOf b p.p.term z w.more) (sym q.is) levels1 in
-    let levels3 = levels_of_parts b h k i p.p q.p w.more p.at q.at levels2 in
     let restw = subst (λ z. PartsWalked b (drop z (parts_of h)) (drop z (parts_of k)) rest.left rest.right) (suc_of i) rest.walked in
     let restc = subst (λ z. PartsCompared b r h z (drop z (parts_of h)) (drop z (parts_of k)) (pairs_of rest.more)) (suc_of i) rest.compared in
     rw (drop_some (parts_of h) i p.p p.at, drop_some (parts_of k) i q.p q.at) (record {
@@ -117,5 +112,4 @@ both_pass b r h k left right i limit steps more place old mid new x y w rest =
       sum = omega arith;
       within = omega arith;
       placed = All-append (λ c. c.place ≡ Some place) w.more rest.more w.placed rest.placed;
-      levels = λ g a c d. All-append (λ z. IsTrue (g z.low && g z.high)) w.more rest.more (levels3 g a c d) (rest.levels g a c d);
     })

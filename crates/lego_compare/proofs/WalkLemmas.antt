@@ -17,7 +17,6 @@ use Rattle.lego_compare.specs.declared.stop.Stop.{Stop}
 use Rattle.lego_compare.specs.declared.stop.Stop.TheVariants as stop
 use Rattle.lego_compare.specs.declared.stop.Side.TheVariants.{Left, Right}
 use Rattle.lego_compare.specs.Codes.{stop_on}
-use Rattle.lego_compare.specs.Answers.{AreLevelsOf}
 use Rattle.lego_compare.specs.Walks.{Differ, d_heads, FormsDiffer, Leads, l_steps, l_heads, FormLeads, Large, tree, path, Passed, StopsBy, Heads}
 
 module _ (b : CoreBodies) (o : Order) (t u : Core) where
@@ -66,8 +65,8 @@ module _ (b : CoreBodies) (o : Order) (t u : Core) where
     inner_stops limit room crossed stop.Memory le s = tt
 
     -- it came to its end
-    pub inner_passes : (limit steps : ℕ) (place : Place) (old new : List Constraint) → i + j ≤ limit → ((more : List Constraint) → AreLevelsOf b t' u' more → AreLevelsOf b t u more) → Passed (PartsWalked b (parts_of t') (parts_of u')) (FormsCompared b o t' u') (limit - (i + j)) place t' u' b old new steps → Passed (Walked b t u) (Compared b o t u) limit place t u b old new (i + j + steps)
-    inner_passes limit steps place old new le levels s =
+    pub inner_passes : (limit steps : ℕ) (place : Place) (old new : List Constraint) → i + j ≤ limit → Passed (PartsWalked b (parts_of t') (parts_of u')) (FormsCompared b o t' u') (limit - (i + j)) place t' u' b old new steps → Passed (Walked b t u) (Compared b o t u) limit place t u b old new (i + j + steps)
+    inner_passes limit steps place old new le s =
         let sum = s.sum in
         let w = s.within in
         record {
@@ -80,7 +79,6 @@ module _ (b : CoreBodies) (o : Order) (t u : Core) where
           sum = omega arith;
           within = omega arith;
           placed = s.placed;
-          levels = levels s.more s.levels;
         }
 
   -- equal terms
@@ -96,5 +94,4 @@ module _ (b : CoreBodies) (o : Order) (t u : Core) where
         sum = refl;
         within = omega arith;
         placed = All-nil _;
-        levels = λ p k l m. All-nil _;
       }

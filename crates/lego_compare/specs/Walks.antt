@@ -16,7 +16,6 @@ use Rattle.lego_compare.specs.declared.stop.Stop.{Stop}
 use Rattle.lego_compare.specs.declared.stop.Stop.TheVariants as stop
 use Rattle.lego_compare.specs.declared.stop.Side.{Side}
 use Rattle.lego_compare.specs.declared.stop.Side.TheVariants.{Left, Right}
-use Rattle.lego_compare.specs.Answers.{AreLevelsOf}
 use Rattle.lego_reduce.specs.declared.fault.ReduceFault.{ReduceFault}
 use Rattle.lego_reduce.specs.declared.head_form.Reduced.{Reduced}
 use Rattle.lego_reduce.specs.Reduction.{Reduces}
@@ -68,7 +67,6 @@ pub record Passed (Walk : ℕ → ℕ → Type 0) (Compares : List LevelPair →
   pub sum : left + right ≡ steps
   pub within : steps ≤ limit
   pub placed : All (λ c. c.place ≡ Some place) more
-  pub levels : AreLevelsOf b t u more
 
 -- the walk's steps are more than the limit
 pub record TooMany (Walk : ℕ → ℕ → Type 0) (limit : ℕ) : Type 0 where

@@ -12,7 +12,6 @@ use Rattle.lego_compare.proofs.WalkLemmas.{no_room, left_stops, right_stops, inn
 use Rattle.lego_compare.proofs.RootLemmas.{apart_stops}
 use Rattle.lego_compare.proofs.AlikeLemmas.{forms_pass}
 use Rattle.lego_compare.proofs.EndLemmas.{universes_pass, left_ends, right_ends}
-use Rattle.lego_compare.proofs.StepLevelLemmas.{levels_of_heads}
 use Rattle.lego_compare.proofs.walk.+walk.Goals.{parts_from-in_default-via-in-Some+in_default, parts_from-in_default-via-in_default}
 use Rattle.lego_compare.proofs.walk.+walk.Goals as goal
 
@@ -77,7 +76,6 @@ different-returns t c =
     let rl = r.1 in
     inner_passes b (order_of c.args.at.relation) c.args.a.now c.args.b.now c.in_ok-left.left.steps c.in_ok-right.right.steps c.in_ok-left.left.term c.in_ok-right.right.term l.0 r.0
     c.args.limit c.in_ok-inner.inner c.args.place c.args.found.now.items c.forms.new.found.items (omega arith)
-    (levels_of_heads b c.args.a.now c.args.b.now c.in_ok-left.left.term c.in_ok-right.right.term c.in_ok-left.left.steps c.in_ok-right.right.steps l.0 r.0)
     c.in_ok-inner.ensures
 
 pub forms-returns-in_ok-ask-in-Universes : goal.forms-returns-in_ok-ask-in-Universes
