@@ -1,15 +1,15 @@
 -- Each gathered constraint is asked by two universes that face one another, and their levels are those of the terms and bodies.
-use Rattle.std.proofs.Common.{◌≡◌, ℕ, zero, suc, Some, List, [], ◌∷◌, ◌++◌, slice_get, refl, sym, ap, ◌∙◌, subst}
+use Rattle.std.proofs.Common.{◌≡◌, ℕ, suc, List, [], ◌∷◌, ◌++◌, refl, sym, ap, ◌∙◌, subst}
 use Rattle.std.specs.Prelude.{All}
 use Rattle.std.specs.List.{AllByRecursion}
 use Rattle.std.proofs.lemmas.List.Elements.{All-nil, All-cons}
 use Rattle.lego_term.specs.declared.level.Level.{Level}
 use Rattle.lego_term.specs.Levels.{LevelPair}
-use Rattle.lego_term.specs.Trees.{Core, Var, Const, Prop, Univ, Pi, Lam, App, Sigma, Pair, Fst, Snd}
-use Rattle.lego_term.specs.Parts.{Shape, APi, ALam, AnApp, ASigma, APair, AFst, ASnd, Branch, parts_of}
+use Rattle.lego_term.specs.Trees.{Core, Univ}
+use Rattle.lego_term.specs.Parts.{Shape, APi, ALam, AnApp, ASigma, APair, AFst, ASnd}
 use Rattle.lego_term.specs.Sequences.{HeadForm}
 use Rattle.lego_laws.specs.Parallel.{CoreBodies}
-use Rattle.lego_laws.specs.Facing.{Order, Cumulativity, Conversion, order_at, crossed, Faces, Asks}
+use Rattle.lego_laws.specs.Facing.{Order, Cumulativity, Conversion, order_at, Faces, Asks}
 use Rattle.lego_laws.specs.Comparison.{asked, Compared, m_equal, m_heads, FormsCompared, f_var, f_const, f_prop, f_prop_univ, f_univ, f_pi, f_lam, f_app, f_sigma, f_pair, f_fst, f_snd}
 use Rattle.lego_level.specs.declared.constraint.Constraint.{Constraint}
 use Rattle.lego_level.specs.Graphs.{pairs_of}

@@ -1,8 +1,7 @@
 -- What a walk through both whole terms decides.
-use Rattle.std.proofs.Common.{◌≡◌, ℕ, Some, List, [], ◌∷◌, ◌++◌, refl, sym, subst, All, arith}
-use Rattle.std.proofs.lemmas.List.Elements.{All-nil, All-cons}
+use Rattle.std.proofs.Common.{◌≡◌, ℕ, Some, List, [], ◌∷◌, sym, subst, All, arith}
+use Rattle.std.proofs.lemmas.List.Elements.{All-nil}
 use Rattle.lego_base.specs.declared.place.Place.{Place}
-use Rattle.lego_term.specs.declared.level.Level.{Level}
 use Rattle.lego_term.specs.Levels.{LevelPair}
 use Rattle.lego_term.specs.Trees.{Core, Equal}
 use Rattle.lego_laws.specs.Parallel.{CoreBodies, AreClosed}

@@ -2,7 +2,7 @@
 use Rattle.std.proofs.Common.{sym, ◌∙◌, ◌≡◌, ℕ, ◌+◌, Option, Some, None, refl, ap, subst, arith}
 use Rattle.lego_term.specs.declared.level.Level.{Level}
 use Rattle.lego_term.specs.Trees.{Core}
-use Rattle.lego_term.specs.Parts.{Shape, Branch}
+use Rattle.lego_term.specs.Parts.{Branch}
 use Rattle.lego_term.specs.Sequences.{HeadForm}
 use Rattle.lego_term.specs.declared.binder.Binder.{Binder}
 use Rattle.lego_laws.specs.Parallel.{CoreBodies, AreClosed}

@@ -10,7 +10,7 @@ use Rattle.lego_laws.specs.Parallel.{CoreBodies}
 use Rattle.lego_laws.specs.Facing.{Order, Faces, Asks}
 use Rattle.lego_laws.proofs.HeadSteps.{head_steps}
 use Rattle.lego_laws.proofs.LevelsKept.{Levels, levels_run}
-use Rattle.lego_compare.specs.Answers.{order_under, IsAsked, IsLevelIn, of_left, of_right, of_body}
+use Rattle.lego_compare.specs.Answers.{IsAsked, IsLevelIn, of_left, of_right, of_body}
 
 alone : (l : Level) → Contains (l ∷ []) l
 alone l = (0, omega arith, refl)
@@ -34,8 +34,7 @@ module _ (P : Level → Type 0) where
   listed (Sigma x a r) h = (listed a (front (levels_of a) (levels_of r) h), listed r (back (levels_of a) (levels_of r) h))
   listed (Pair x a r m n) h =
       let three = front (levels_of a ++ levels_of r ++ levels_of m) (levels_of n) h in
-      let two = front (levels_of a ++ levels_of r) (levels_of m) three in
-      (
+      let two = front (levels_of a ++ levels_of r) (levels_of m) three in (
         listed a (front (levels_of a) (levels_of r) two),
         listed r (back (levels_of a) (levels_of r) two),
         listed m (back (levels_of a ++ levels_of r) (levels_of m) three),

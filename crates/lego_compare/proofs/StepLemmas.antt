@@ -1,5 +1,5 @@
 -- One part of two head forms in a walk, as the code finds it.
-use Rattle.std.proofs.Common.{◌≡◌, ℕ, zero, suc, ◌+◌, ◌-◌, ◌≤◌, ◌<◌, ◌&&◌, IsTrue, if◌then◌else◌, drop, slice_get, Option, Some, None, Ok, Err, List, ◌∷◌, ◌++◌, option_map, refl, sym, ap, ◌∙◌, subst, arith}
+use Rattle.std.proofs.Common.{◌≡◌, ℕ, zero, suc, ◌+◌, ◌-◌, ◌≤◌, ◌<◌, if◌then◌else◌, drop, slice_get, Option, Some, None, Ok, Err, List, ◌∷◌, ◌++◌, option_map, refl, sym, ap, ◌∙◌, subst, arith}
 use Rattle.std.proofs.lemmas.List.{map-append, append_assoc}
 use Rattle.std.proofs.lemmas.List.Elements.{All-append}
 use Rattle.lego_base.specs.declared.place.Place.{Place}

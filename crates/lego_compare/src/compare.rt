@@ -10,7 +10,7 @@ ghost use Rattle.lego_compare.specs.Causes.{LargeIn, Stopped, PassesIn};
 use crate::fault::CompareFault;
 use crate::relation::Relation;
 use crate::stop::{Side, Stop};
-use crate::walk::{Position, different};
+use crate::walk::{Position, Setting, different};
 use lego_base::Place;
 use lego_level::Constraint;
 use lego_reduce::{ReduceFault, normal};
@@ -19,8 +19,9 @@ use std::alloc::Global;
 
 /// The constraints under which the first term is below the second. They carry the place.
 ///
-/// The terms have at most 63,536 loose variables, and no body has one. A comparison makes at
-/// most `limit` steps on both sides together.
+/// The terms' loose variables are below 63,536, and no body has one. The walk makes at most
+/// `limit` steps on both sides together; where it comes to a term too large, the whole term of
+/// that side is normalised within the limit once more.
 pub fn below(
     alloc: Global,
     bodies: &Bodies,
@@ -76,12 +77,18 @@ fn compared(
     if equal(a, b) {
         return Ok(found);
     }
+    let setting = Setting {
+        alloc,
+        bodies,
+        place,
+    };
     let at = Position {
         relation,
         room: MAX_DEPTH + 1,
         deeper: 0,
+        apart: true,
     };
-    match different(alloc, bodies, a, b, at, limit, place, &mut found) {
+    match different(&setting, a, b, at, limit, &mut found) {
         Ok(_) => Ok(found),
         Err(stop) => Err(fault_of(alloc, bodies, relation, a, b, limit, stop)),
     }

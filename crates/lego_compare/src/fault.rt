@@ -14,7 +14,8 @@ pub enum CompareFault {
     /// The normalisation sequences of both terms together have more steps than the limit.
     Budget,
     /// A term that one of the normalisation sequences reaches within the limit has a subtree
-    /// of this size and depth, which passes a limit of terms; or it is deeper than that.
+    /// of this size and depth, which passes a limit of terms; or it has a path of more than
+    /// 2,000 parts, and these are 1,048,577 and 2,001.
     TooLarge {
         size: u64,
         depth: u32,

@@ -388,3 +388,28 @@ fn a_path_without_end_is_too_large(rt: HostRuntime) -> Result<(), Fail> {
     assert!(rt; matches!(found, Err(CompareFault::TooLarge { depth: 2_001, .. })));
     Ok(())
 }
+
+/// So many products with one domain before the end.
+fn products(alloc: Global, count: u32, domain: &Term, end: &Term) -> Result<Term, TermFault> {
+    let mut t = end.share()?;
+    for _ in 0..count {
+        t = pi(alloc, PLAIN, domain, &t)?;
+    }
+    Ok(t)
+}
+
+#[test]
+fn a_long_telescope_is_not_read_again_at_each_binder(rt: HostRuntime) -> Result<(), Fail> {
+    let alloc = rt.alloc();
+    let bodies = chain(alloc, 1)?;
+    let low = prop(alloc)?;
+    let mut domain = prop(alloc)?;
+    for _ in 0..260 {
+        domain = app(alloc, Mark::Plain, &domain, &low)?;
+    }
+    let a = products(alloc, 1_700, &domain, &universe(alloc, 0)?)?;
+    let b = products(alloc, 1_700, &domain, &universe(alloc, 1)?)?;
+    let found = answer(alloc, &bodies, Relation::Below, &a, &b, 0);
+    assert!(rt; gives(found, &[at_most(0, 1)]));
+    Ok(())
+}

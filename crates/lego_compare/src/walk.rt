@@ -1,7 +1,7 @@
 //! The walk through the head forms of two terms, and then through their parts, in the order of
 //! the normalisation sequence.
-ghost use Rattle.std.specs.Prelude.{◌≡◌, ◌+◌, ◌-◌, ◌≤◌, ◌<◌, ◌++◌, IfOk, if◌then◌else◌};
-ghost use Rattle.lego_term.specs.Trees.{loose};
+ghost use Rattle.std.specs.Prelude.{◌≡◌, ◌+◌, ◌-◌, ◌≤◌, ◌<◌, ◌++◌, true, IfOk, if◌then◌else◌};
+ghost use Rattle.lego_term.specs.Trees.{Equal, loose};
 ghost use Rattle.lego_term.specs.Parts.{shape_of};
 ghost use Rattle.lego_term.specs.BodyMap.{bodies_in, AreClosed};
 ghost use Rattle.lego_compare.specs.Codes.{asked_at, stop_on, relation_at as relation_of_part, binds as has_binder};
@@ -17,6 +17,14 @@ use lego_reduce::{ReduceFault, Reduced, head};
 use lego_term::{Bodies, Level, MAX_DEPTH, MAX_SIZE, Term, equal};
 use std::alloc::{AllocError, Global};
 
+/// What a walk works with: the bodies of constants, and the place of its constraints.
+#[derive(Drop)]
+pub(crate) struct Setting<'a> {
+    pub(crate) alloc: Global,
+    pub(crate) bodies: &'a Bodies,
+    pub(crate) place: Place,
+}
+
 /// Where a walk stands.
 #[derive(Debug, Clone, Copy, PartialEq, Eq)]
 pub(crate) struct Position {
@@ -26,50 +34,51 @@ pub(crate) struct Position {
     pub(crate) room: u32,
     /// The number of binders crossed.
     pub(crate) deeper: u32,
+    /// Whether the terms here, or of two head forms the parts that are left, are known to
+    /// differ, so that the last of these parts need not be asked whether it is equal.
+    pub(crate) apart: bool,
 }
 
 /// Walks through two terms, and gathers the constraints under which they are related; gives the
 /// number of steps that it made on both sides together. Equal terms take none.
 #[cycle(walk)]
 fn part(
-    alloc: Global,
-    bodies: &Bodies,
+    setting: &Setting<'_>,
     a: &Term,
     b: &Term,
+    is_equal: bool,
     at: Position,
     limit: u64,
-    place: Place,
     found: &mut Vec<Constraint>,
 ) -> Result<u64, Stop>
     requires left { loose a.now + at.room ≤ 65537 }
     requires right { loose b.now + at.room ≤ 65537 }
     requires path { at.room + at.deeper ≤ 2001 }
-    requires closed { AreClosed bodies.now }
-    ensures { Walks (bodies_in bodies.now) at.relation a.now b.now limit at.room at.deeper place found.old.items found.new.items result }
+    requires closed { AreClosed setting.now.bodies.now }
+    requires equal { is_equal ≡ true → Equal a.now b.now }
+    ensures { Walks (bodies_in setting.now.bodies.now) at.relation a.now b.now limit at.room at.deeper setting.now.place found.old.items found.new.items result }
 {
-    if equal(a, b) {
+    if is_equal {
         return Ok(0);
     }
-    different(alloc, bodies, a, b, at, limit, place, found)
+    different(setting, a, b, at, limit, found)
 }
 
-/// The same, where the terms need not be asked whether they are equal.
+/// The same of terms that differ.
 #[cycle(walk)]
 pub(crate) fn different(
-    alloc: Global,
-    bodies: &Bodies,
+    setting: &Setting<'_>,
     a: &Term,
     b: &Term,
     at: Position,
     limit: u64,
-    place: Place,
     found: &mut Vec<Constraint>,
 ) -> Result<u64, Stop>
     requires left { loose a.now + at.room ≤ 65537 }
     requires right { loose b.now + at.room ≤ 65537 }
     requires path { at.room + at.deeper ≤ 2001 }
-    requires closed { AreClosed bodies.now }
-    ensures { Walks (bodies_in bodies.now) at.relation a.now b.now limit at.room at.deeper place found.old.items found.new.items result }
+    requires closed { AreClosed setting.now.bodies.now }
+    ensures { Walks (bodies_in setting.now.bodies.now) at.relation a.now b.now limit at.room at.deeper setting.now.place found.old.items found.new.items result }
 {
     if at.room == 0 {
         return Err(Stop::TooLarge {
@@ -78,36 +87,25 @@ pub(crate) fn different(
             depth: MAX_DEPTH + 1,
         });
     }
-    let left = head_of(alloc, bodies, Side::Left, a, limit)?;
-    let right = head_of(alloc, bodies, Side::Right, b, limit - left.steps)?;
+    let left = head_of(setting, Side::Left, a, limit)?;
+    let right = head_of(setting, Side::Right, b, limit - left.steps)?;
     let steps = left.steps + right.steps;
-    let inner = forms(
-        alloc,
-        bodies,
-        &left.term,
-        &right.term,
-        at,
-        limit - steps,
-        place,
-        found,
-    )?;
+    let at = Position {
+        apart: steps == 0,
+        ..at
+    };
+    let inner = forms(setting, &left.term, &right.term, at, limit - steps, found)?;
     Ok(steps + inner)
 }
 
 /// The head form of the term on this side.
-fn head_of(
-    alloc: Global,
-    bodies: &Bodies,
-    side: Side,
-    t: &Term,
-    limit: u64,
-) -> Result<Reduced, Stop>
+fn head_of(setting: &Setting<'_>, side: Side, t: &Term, limit: u64) -> Result<Reduced, Stop>
     requires room { loose t.now ≤ 65536 }
-    requires closed { AreClosed bodies.now }
-    ensures head { Heads (bodies_in bodies.now) side t.now limit result }
+    requires closed { AreClosed setting.now.bodies.now }
+    ensures head { Heads (bodies_in setting.now.bodies.now) side t.now limit result }
     ensures bound { IfOk result (λ reduced. loose reduced.term ≤ loose t.now) }
 {
-    match head(alloc, bodies, t, limit) {
+    match head(setting.alloc, setting.bodies, t, limit) {
         Ok(reduced) => Ok(reduced),
         Err(fault) => Err(stop_of(side, fault)),
     }
@@ -127,29 +125,27 @@ fn stop_of(side: Side, fault: ReduceFault) -> Stop
 /// The same for two head forms.
 #[cycle(walk)]
 fn forms(
-    alloc: Global,
-    bodies: &Bodies,
+    setting: &Setting<'_>,
     a: &Term,
     b: &Term,
     at: Position,
     limit: u64,
-    place: Place,
     found: &mut Vec<Constraint>,
 ) -> Result<u64, Stop>
     requires left { loose a.now + at.room ≤ 65537 }
     requires right { loose b.now + at.room ≤ 65537 }
     requires path { at.room + at.deeper ≤ 2001 }
     requires goes_on { 0 < at.room }
-    requires closed { AreClosed bodies.now }
-    ensures { FormsWalk (bodies_in bodies.now) at.relation a.now b.now limit at.room at.deeper place found.old.items found.new.items result }
+    requires closed { AreClosed setting.now.bodies.now }
+    ensures { FormsWalk (bodies_in setting.now.bodies.now) at.relation a.now b.now limit at.room at.deeper setting.now.place found.old.items found.new.items result }
 {
     match compare_roots(at.relation, a, b) {
         Roots::Apart => Err(differing(a, b, at.deeper)),
         Roots::Universes(low, high) => {
-            ask(at.relation, low, high, place, found)?;
+            ask(at.relation, low, high, setting.place, found)?;
             Ok(0)
         }
-        Roots::Alike => parts_from(alloc, bodies, a, b, 0, at, limit, place, found),
+        Roots::Alike => parts_from(setting, a, b, 0, at, limit, found),
     }
 }
 
@@ -192,41 +188,44 @@ fn ask(
 /// The same for the parts of two head forms of one form, from the numbered part on.
 #[cycle(walk)]
 fn parts_from(
-    alloc: Global,
-    bodies: &Bodies,
+    setting: &Setting<'_>,
     a: &Term,
     b: &Term,
     number: usize,
     at: Position,
     limit: u64,
-    place: Place,
     found: &mut Vec<Constraint>,
 ) -> Result<u64, Stop>
     requires left { loose a.now + at.room ≤ 65537 }
     requires right { loose b.now + at.room ≤ 65537 }
     requires path { at.room + at.deeper ≤ 2001 }
     requires goes_on { 0 < at.room }
-    requires closed { AreClosed bodies.now }
+    requires closed { AreClosed setting.now.bodies.now }
     requires one_form { shape_of a.now ≡ shape_of b.now }
-    ensures { PartsWalk (bodies_in bodies.now) at.relation a.now b.now number limit at.room at.deeper place found.old.items found.new.items result }
+    ensures { PartsWalk (bodies_in setting.now.bodies.now) at.relation a.now b.now number limit at.room at.deeper setting.now.place found.old.items found.new.items result }
 {
     let (Some(left), Some(right)) = (part_at(a, number), part_at(b, number)) else {
         return Ok(0);
     };
+    let next = number + 1;
+    let is_last = part_at(a, next).is_none();
+    let is_equal = are_equal(left, right, at.apart && is_last);
     let inside = inside(at, a, number);
-    let steps = part(alloc, bodies, left, right, inside, limit, place, found)?;
-    let rest = parts_from(
-        alloc,
-        bodies,
-        a,
-        b,
-        number + 1,
-        at,
-        limit - steps,
-        place,
-        found,
-    )?;
-    Ok(steps + rest)
+    let steps = part(setting, left, right, is_equal, inside, limit, found)?;
+    let rest = Position {
+        apart: at.apart && is_equal,
+        ..at
+    };
+    let more = parts_from(setting, a, b, next, rest, limit - steps, found)?;
+    Ok(steps + more)
+}
+
+/// Whether two parts are equal. Parts that are known to differ are not looked at: else a chain
+/// of binders would be read to its end at each of them.
+fn are_equal(a: &Term, b: &Term, differ: bool) -> bool
+    ensures { result ≡ true → Equal a.now b.now }
+{
+    !differ && equal(a, b)
 }
 
 /// Where the walk stands at the numbered part.
@@ -247,5 +246,6 @@ fn inside(at: Position, t: &Term, number: usize) -> Position
         relation: relation_at(at.relation, t, number),
         room: at.room - 1,
         deeper,
+        apart: false,
     }
 }
