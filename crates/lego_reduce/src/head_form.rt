@@ -30,7 +30,7 @@ pub(crate) enum Turn {
 
 /// The head form of the term and the number of head steps to it.
 ///
-/// The term has at most 65,536 loose variables, and no body has one.
+/// The term's loose variables are below 65,536, and no body has one.
 pub fn head(alloc: Global, bodies: &Bodies, t: &Term, limit: u64) -> Result<Reduced, ReduceFault>
     requires room { loose t.now ≤ 65536 }
     requires closed { AreClosed bodies.now }

@@ -39,6 +39,8 @@ pub(crate) enum Projection {
 
 /// The normal form of the term and the number of steps to it, head steps first and then
 /// those of the parts from left to right.
+///
+/// The term's loose variables are below 63,536, and no body has one.
 pub fn normal(alloc: Global, bodies: &Bodies, t: &Term, limit: u64) -> Result<Reduced, ReduceFault>
     requires room { loose t.now ≤ 63536 }
     requires closed { AreClosed bodies.now }
