@@ -74,6 +74,7 @@ fn answers_to_single_constraints(rt: HostRuntime) {
     let wrong = at_most(fixed(3), fixed(2));
     let far = at_most(fixed(1_000_000), variable(0, 0));
     let beyond = at_most(fixed(1_000_001), variable(0, 0));
+    let idle = at_most(variable(0, 0), variable(0, 0));
     let negative = at_most(variable(0, 1), fixed(0));
     let implied = at_most(fixed(0), variable(0, 0));
     assert!(rt; is_cycle(&outcome_of(alloc, &[rises], &[falls]), &[falls, rises]));
@@ -84,6 +85,7 @@ fn answers_to_single_constraints(rt: HostRuntime) {
     assert!(rt; is_too_big(&outcome_of(alloc, &[far], &[rises]), rises, 1_000_001));
     assert!(rt; outcome_of(alloc, &[], &[far]).is_ok());
     assert!(rt; is_too_big(&outcome_of(alloc, &[], &[beyond]), beyond, 1_000_001));
+    assert!(rt; is_too_big(&outcome_of(alloc, &[], &[idle, beyond]), beyond, 1_000_001));
     assert!(rt; is_cycle(&outcome_of(alloc, &[], &[negative]), &[negative, implied]));
     assert!(rt; is_cycle(&outcome_of(alloc, &[far], &[rises, falls]), &[falls, rises]));
 }
