@@ -95,7 +95,7 @@ fn chain(alloc: Global, size: u32, order: Order) -> Result<Graph, BenchFault>
 {
     let mut graph = Graph::new(alloc);
     for turn in 0..size {
-        graph.extend(alloc, &[link(size, turn, order)])?;
+        graph.extend(&[link(size, turn, order)])?;
     }
     Ok(graph)
 }
@@ -105,7 +105,7 @@ fn in_order(alloc: Global, size: u32, order: Order) -> Result<Held, BenchFault>
     requires { size ≤ 10000000 }
 {
     let graph = chain(alloc, size, order)?;
-    let values = graph.least(alloc, size + 1)?;
+    let values = graph.least(size + 1)?;
     Ok(Held {
         constraints: graph.len() as u64,
         value: values.iter().copied().max().unwrap_or(0),
@@ -125,7 +125,7 @@ fn layers(alloc: Global, size: u32) -> Result<Held, BenchFault>
         } else {
             2 * (turn - even) + 1
         };
-        fill_gap(alloc, &mut graph, gap)?;
+        fill_gap(&mut graph, gap)?;
     }
     Ok(Held {
         constraints: graph.len() as u64,
@@ -135,13 +135,13 @@ fn layers(alloc: Global, size: u32) -> Result<Held, BenchFault>
 }
 
 /// Adds each constraint between two layers, by a call of its own.
-fn fill_gap(alloc: Global, graph: &mut Graph, gap: u32) -> Result<(), BenchFault>
+fn fill_gap(graph: &mut Graph, gap: u32) -> Result<(), BenchFault>
     requires { gap ≤ 20000000 }
 {
     let low = gap * WIDTH;
     for pair in 0..WIDTH * WIDTH {
         let (from, to) = (low + pair / WIDTH, low + WIDTH + pair % WIDTH);
-        graph.extend(alloc, &[at_most(from, 1, to)])?;
+        graph.extend(&[at_most(from, 1, to)])?;
     }
     Ok(())
 }
@@ -158,7 +158,7 @@ fn cycles(alloc: Global, size: u32) -> Result<Held, BenchFault>
     for turn in 0..CYCLES {
         let span = 1 + turn % MAX_CYCLE;
         let first = turn * 7919 % (size - MAX_CYCLE);
-        let outcome = graph.extend(alloc, &[at_most(first + span, 0, first)]);
+        let outcome = graph.extend(&[at_most(first + span, 0, first)]);
         if matches!(outcome, Err(GraphFault::Cycle(_))) {
             refused = refused.saturating_add(1);
         }
@@ -178,7 +178,7 @@ fn again(alloc: Global, size: u32) -> Result<Held, BenchFault>
     for _ in 0..ROUNDS {
         let half = graph.len() / 2;
         graph.cut_to(half);
-        add_rest(alloc, &mut graph, size)?;
+        add_rest(&mut graph, size)?;
     }
     Ok(Held {
         constraints: graph.len() as u64,
@@ -188,11 +188,11 @@ fn again(alloc: Global, size: u32) -> Result<Held, BenchFault>
 }
 
 /// Adds the second half of a chain.
-fn add_rest(alloc: Global, graph: &mut Graph, size: u32) -> Result<(), BenchFault>
+fn add_rest(graph: &mut Graph, size: u32) -> Result<(), BenchFault>
     requires { size ≤ 10000000 }
 {
     for turn in size / 2..size {
-        graph.extend(alloc, &[link(size, turn, Order::FirstToLast)])?;
+        graph.extend(&[link(size, turn, Order::FirstToLast)])?;
     }
     Ok(())
 }

@@ -119,7 +119,7 @@ module _ (e : Constraint) (gain : ℕ) (v : Option ℕ → ℕ) (all : List Cons
       )
 
 -- a walk goes on
-walk_push : (from at : Option ℕ) (walk : List Constraint) (y : Constraint) → IsWalk from walk at → y.low.base ≡ at → IsWalk from (walk ++ y ∷ []) y.high.base
+pub walk_push : (from at : Option ℕ) (walk : List Constraint) (y : Constraint) → IsWalk from walk at → y.low.base ≡ at → IsWalk from (walk ++ y ∷ []) y.high.base
 walk_push from at [] y w is = (is ∙ sym w, refl)
 walk_push from at (x ∷ walk) y w is = (w.0, walk_push x.high.base at walk y w.1 is)
 
@@ -127,7 +127,7 @@ differs_push : (base : Option ℕ) (walk : List Constraint) (y : Constraint) →
 differs_push base [] y all h = (h, tt)
 differs_push base (x ∷ walk) y all h = (all.0, differs_push base walk y all.1 h)
 
-once_push : (walk : List Constraint) (y : Constraint) → Differ (map (λ x. x.low.base) walk) → AllByRecursion (λ x. x.low.base ≡ y.low.base → ⊥) walk → Differ (map (λ x. x.low.base) (walk ++ y ∷ []))
+pub once_push : (walk : List Constraint) (y : Constraint) → Differ (map (λ x. x.low.base) walk) → AllByRecursion (λ x. x.low.base ≡ y.low.base → ⊥) walk → Differ (map (λ x. x.low.base) (walk ++ y ∷ []))
 once_push [] y once apart = (tt, tt)
 once_push (x ∷ walk) y once apart = (differs_push x.low.base walk y once.0 apart.0, once_push walk y once.1 apart.1)
 

@@ -8,7 +8,7 @@ use Rattle.lego_level.specs.declared.direction.Direction.TheVariants.{Up}
 use Rattle.lego_level.specs.declared.draft.Reached.{Reached}
 use Rattle.lego_level.specs.declared.search.Task.{Task}
 use Rattle.lego_level.specs.declared.search.Search.{Search}
-use Rattle.lego_level.specs.Graphs.{implied, IsLeast, Forces, IsVariableBelow, HasVariablesBelow, pairs_of}
+use Rattle.lego_level.specs.Graphs.{implied, IsLeast, IsVariableBelow, HasVariablesBelow, pairs_of}
 use Rattle.lego_level.specs.Lowest.{IsForced, IsLowest}
 use Rattle.lego_level.specs.Potentials.{IsFeasible}
 use Rattle.lego_level.specs.Searches.{blank, reached_at, IsEdge, IsRelaxed, IsLinked, Searches, Stops}
@@ -102,7 +102,7 @@ satisfies v (x ∷ cs) m = (m x (contains_head x cs), satisfies v cs (λ c h. m 
 -- the values of the variables above that of the zero node
 module _ (cs : List Constraint) (n : ℕ) (d : Option ℕ → Reached) (z : IsLowest cs n d) (below : HasVariablesBelow n cs) (xs : List ℕ) (len : length xs ≡ n)
     (values : (u : ℕ) → u < n → get_or xs u 0 + (d None).value ≡ (d (Some u)).value) where
-  node_is : (w : Option ℕ) → IsVariableBelow n w → node_value xs w + (d None).value ≡ (d w).value
+  pub node_is : (w : Option ℕ) → IsVariableBelow n w → node_value xs w + (d None).value ≡ (d w).value
   node_is None h = omega arith
   node_is (Some u) h = values u h
 
@@ -113,19 +113,3 @@ module _ (cs : List Constraint) (n : ℕ) (d : Option ℕ → Reached) (z : IsLo
         (λ l. let a = values u l in let k = lowest_below cs n d w z (meets w cs all) ((d (Some u)).rank + 1) u l (omega arith) in omega (arith, a, k))
         (λ g. let e = get_or_past xs u 0 (omega (arith, g, len)) in omega (arith, e)) (cases_lt u n);
   }
-
-  pub forces_value : (u : ℕ) → u < n → 1000000 < get_or xs u 0 → Forces cs (d (Some u)).cause (get_or xs u 0)
-  forces_value u h over =
-      let x = z.forced u h in let c = (d (Some u)).cause in let xt = x.tight in let a = values u h in
-      let low = node_is c.low.base x.below in let high = node_is c.high.base (subst (IsVariableBelow n) (sym x.high) h) in
-      let e : (d c.high.base).value ≡ (d (Some u)).value = ap (λ y. (d y).value) x.high in record {
-        values = xs;
-        variable = u;
-        least = least_values;
-        listed = ⊎_elim {C = Contains cs c} (λ k. k)
-            (λ k. let a0 : c.low.plus ≡ 0 = ap (λ (y : Constraint). y.low.plus) k in let b0 : node_value xs c.low.base ≡ 0 = ap (λ (y : Constraint). node_value xs y.low.base) k in absurd (omega (arith, a0, b0, low, xt, e, a, over))) x.known;
-        high = x.high;
-        tight = omega (arith, xt, low, high);
-        value = refl;
-        over = over;
-      }

@@ -8,6 +8,7 @@ pub mod CountLemmas
 pub mod CycleLemmas
 pub mod MendLemmas
 pub mod LeastLemmas
+pub mod ForcedLemmas
 pub mod SolverLemmas
 pub mod MeaningLemmas
 pub mod GraphLemmas

@@ -15,7 +15,8 @@ use Rattle.lego_level.specs.Lowest.{IsLowest}
 use Rattle.lego_level.specs.Outcomes.{IsSettled}
 use Rattle.lego_level.specs.Potentials.{value_at, low_of, high_of, IsFeasible, IsBelowTop}
 use Rattle.lego_level.proofs.CycleLemmas.{cycle_excludes}
-use Rattle.lego_level.proofs.LeastLemmas.{low_variable, meets, least_values, forces_value}
+use Rattle.lego_level.proofs.ForcedLemmas.{forces_value}
+use Rattle.lego_level.proofs.LeastLemmas.{low_variable, meets, least_values}
 use Rattle.lego_level.proofs.MemberLemmas.{contains_none, contains_cases, contains_head, contains_tail}
 use Rattle.lego_level.proofs.PotentialLemmas.{value_zero}
 use Rattle.lego_level.proofs.SolverLemmas.{satisfied_within}

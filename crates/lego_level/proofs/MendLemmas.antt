@@ -6,10 +6,12 @@ use Rattle.lego_level.specs.declared.constraint.Constraint.{Constraint}
 use Rattle.lego_level.specs.declared.direction.Direction.{Direction}
 use Rattle.lego_level.specs.declared.direction.Direction.TheVariants.{Up, Down}
 use Rattle.lego_level.specs.declared.draft.Reached.{Reached}
+use Rattle.lego_level.specs.declared.mend.Outcome.TheVariants.{Mended, Closed}
 use Rattle.lego_level.specs.declared.search.Task.{Task}
 use Rattle.lego_level.specs.declared.search.Search.{Search}
 use Rattle.lego_level.specs.Graphs.{implied}
 use Rattle.lego_level.specs.Incidence.{near_of, far_of}
+use Rattle.lego_level.specs.Outcomes.{IsMending, IsOutcome}
 use Rattle.lego_level.specs.Potentials.{low_of, high_of, IsFeasible}
 use Rattle.lego_level.specs.Searches.{reached_at, unreached, moved_to, IsMoved, IsScanned, IsEdge, IsUpperZero, IsStop, IsRelaxed, Searches, Stops, Turns}
 use Rattle.lego_level.proofs.MemberLemmas.{contains_cases}
@@ -79,3 +81,17 @@ turned t v cs s c z back apart more lack =
 -- on the way down a search stops at the near node alone
 pub stop_down : (t : Task) (u : Option ℕ) → t.direction ≡ Down → IsStop t u → u ≡ near_of t.direction t.added
 stop_down t u down h = ⊎_elim {C = u ≡ near_of t.direction t.added} (λ k. k) (λ k. absurd (subst (λ w. IsUpperZero w u) down k)) h
+
+-- what comes of a search that is to mend: it ends, or comes back to the added constraint
+module _ (way : Direction) (t : Task) (v : Option ℕ → ℕ) (cs : List Constraint) (s : Search) (m : IsMending way v t) where
+  apart : near_of t.direction t.added ≡ far_of t.direction t.added → ⊥
+  apart = subst (λ w. near_of w t.added ≡ far_of w t.added → ⊥) (sym m.direction) m.apart
+
+  pub ends : Searches t v cs s → s.queue ≡ [] → IsFeasible v cs → (IsUpperZero way None → None ≡ far_of way t.added → ⊥) → IsOutcome v cs t.added (Mended s.draft)
+  ends z empty feasible zero = (mended t v cs s z empty feasible apart (subst (λ w. IsUpperZero w None → None ≡ far_of w t.added → ⊥) (sym m.direction) zero) m.lack, z.touched)
+
+  pub closes : (c : Constraint) → Stops t v cs s c → far_of way c ≡ near_of way t.added → IsOutcome v cs t.added (Closed (record { task = t; draft = s.draft; closing = c }))
+  closes c z back = (refl, turned t v cs s c z (subst (λ w. far_of w c ≡ near_of w t.added) (sym m.direction) back) apart m.more m.lack)
+
+pub closes_down : (t : Task) (v : Option ℕ → ℕ) (cs : List Constraint) (s : Search) (c : Constraint) → IsMending Down v t → Stops t v cs s c → IsOutcome v cs t.added (Closed (record { task = t; draft = s.draft; closing = c }))
+closes_down t v cs s c m z = closes Down t v cs s m c z (subst (λ w. far_of w c ≡ near_of w t.added) m.direction (stop_down t (far_of t.direction c) m.direction z.stop))

@@ -1,7 +1,7 @@
 -- Sets of constraints: the pairs that the rules see, cycles, and least values.
-use Rattle.std.specs.Prelude.{◌≡◌, ℕ, ◌<◌, ◌≤◌, ◌⊎◌, List, [], ◌∷◌, map, Option, Some, None, sum_by, get_or, Contains}
+use Rattle.std.specs.Prelude.{◌≡◌, ℕ, ◌<◌, ◌≤◌, ◌⊎◌, ◌+◌, ◌++◌, List, [], ◌∷◌, map, Option, Some, None, sum_by, get_or, Contains}
 use Rattle.std.specs.List.{AllByRecursion}
-use Rattle.lego_term.specs.Levels.{Assignment, LevelPair, SatisfiesAll, level_value, fixed_level, variable_level}
+use Rattle.lego_term.specs.Levels.{Assignment, LevelPair, SatisfiesAll, fixed_level, variable_level}
 use Rattle.lego_level.specs.declared.constraint.Constraint.{Constraint}
 
 -- a constraint as the rules see it
@@ -53,16 +53,23 @@ pub record IsLeast (cs : List Constraint) (v : Assignment) : Type 0 where
   pub satisfies : SatisfiesAll v (pairs_of cs)
   pub least : (w : Assignment) → SatisfiesAll w (pairs_of cs) → (u : ℕ) → get_or v u 0 ≤ get_or w u 0
 
--- at the least solution a variable has the value `needed`, which is over 1,000,000, and c forces it
+-- a walk of known constraints from the zero node to u that meets no node twice, and whose total is `needed`; so u is at least this
+pub record IsForcing (cs walk : List Constraint) (u needed : ℕ) : Type 0 where
+  pub leads : IsWalk None walk (Some u)
+  pub once : Differ (Some u ∷ map (λ d. d.low.base) walk)
+  pub total : sum_by (λ d. d.high.plus) walk + needed ≡ sum_by (λ d. d.low.plus) walk
+  pub known : (c : Constraint) → Contains walk c → IsKnown cs c
+
+-- at the least solution a variable has the value `needed`, which is over 1,000,000, and a walk that ends in c forces it
 pub record Forces (cs : List Constraint) (c : Constraint) (needed : ℕ) : Type 0 where
   pub values : Assignment
   pub variable : ℕ
+  pub before : List Constraint
   pub least : IsLeast cs values
-  pub listed : Contains cs c
-  pub high : c.high.base ≡ Some variable
-  pub tight : level_value values c.low ≡ level_value values c.high
   pub value : get_or values variable 0 ≡ needed
   pub over : 1000000 < needed
+  pub forced : IsForcing cs (before ++ c ∷ []) variable needed
+  pub listed : Contains cs c
 
 abbrev pub IsVariableBelow : ℕ → Option ℕ → Type 0
 IsVariableBelow n None = Unit {0}

@@ -1,13 +1,23 @@
 -- What comes of the searches for an added constraint, and of a look at the limit.
 use Rattle.std.specs.Prelude.{◌≡◌, ℕ, ◌+◌, ◌<◌, ◌≤◌, List, ◌∷◌, Option, Some, None}
 use Rattle.lego_level.specs.declared.constraint.Constraint.{Constraint}
+use Rattle.lego_level.specs.declared.direction.Direction.{Direction}
 use Rattle.lego_level.specs.declared.draft.Reached.{Reached}
 use Rattle.lego_level.specs.declared.mend.Outcome.{Outcome}
 use Rattle.lego_level.specs.declared.mend.Outcome.TheVariants.{Mended, Closed}
+use Rattle.lego_level.specs.declared.search.Task.{Task}
 use Rattle.lego_level.specs.declared.solver.Settled.{Settled}
 use Rattle.lego_level.specs.declared.solver.Settled.TheVariants.{Within, Over}
-use Rattle.lego_level.specs.Potentials.{value_at, IsFeasible, IsBelowTop}
+use Rattle.lego_level.specs.Incidence.{near_of, far_of}
+use Rattle.lego_level.specs.Potentials.{value_at, low_of, high_of, IsFeasible, IsBelowTop}
 use Rattle.lego_level.specs.Searches.{reached_at, moved_to, IsTouched, Turns}
+
+-- the search that way is to mend what the added constraint asks for more
+pub record IsMending (way : Direction) (v : Option ℕ → ℕ) (t : Task) : Type 0 where
+  pub direction : t.direction ≡ way
+  pub lack : t.gain + high_of v t.added ≡ low_of v t.added
+  pub more : 0 < t.gain
+  pub apart : near_of way t.added ≡ far_of way t.added → ⊥
 
 abbrev pub IsOutcome : (Option ℕ → ℕ) → List Constraint → Constraint → Outcome → Type 0
 IsOutcome v cs e (Mended d) = IsFeasible (moved_to v (reached_at d)) (e ∷ cs) × IsTouched d

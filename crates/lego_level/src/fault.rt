@@ -12,7 +12,8 @@ pub enum GraphFault {
     /// form a closed walk that meets no node twice, and ask more than they give.
     Cycle(List<Constraint>),
     /// The constraints can be satisfied, but a variable's least value is over 1,000,000: it is
-    /// `needed`, and `constraint` forces it.
+    /// `needed`. `constraint`, held or new, forces it: it ends a walk from 0 to the variable whose
+    /// constraints, each held, new or implied, ask for so much.
     LevelTooBig { constraint: Constraint, needed: u64 },
     /// Memory ran out.
     Memory,

@@ -14,6 +14,7 @@ use std::marker::Model;
 /// moves little, and that taking the newest ones away moves nothing.
 #[derive(Drop)]
 pub struct Graph {
+    alloc: Global,
     solver: Solver,
 }
 
@@ -35,6 +36,7 @@ impl Graph {
         ensures { result ≡ [] }
     {
         Graph {
+            alloc,
             solver: Solver::new(alloc),
         }
     }
@@ -42,14 +44,14 @@ impl Graph {
     /// Adds constraints behind those held. All of them are refused where they and the held ones
     /// can't be satisfied together (`Cycle`), or can only with a value over 1,000,000
     /// (`LevelTooBig`), or where memory runs out; then the graph is as it was.
-    pub fn extend(&mut self, alloc: Global, more: &[Constraint]) -> Result<(), GraphFault>
+    pub fn extend(&mut self, more: &[Constraint]) -> Result<(), GraphFault>
         ensures added { OnOk result (self.new ≡ self.old ++ more.now) }
         ensures within { OnOk result (CanBeSatisfiedWithin self.new) }
         ensures refused { IfErr result (IsGraphFault (self.old ++ more.now)) }
         ensures unchanged { OnErr result (self.new ≡ self.old) }
     {
         let held = self.solver.constraints().len();
-        let outcome = add_all(alloc, &mut self.solver, more);
+        let outcome = add_all(self.alloc, &mut self.solver, more);
         if outcome.is_err() {
             cut(&mut self.solver, held);
         }
@@ -82,12 +84,12 @@ impl Graph {
 
     /// The least values of the variables below `count`, which is above each variable of a
     /// constraint.
-    pub fn least(&self, alloc: Global, count: u32) -> Result<Vec<u64>, AllocError>
+    pub fn least(&self, count: u32) -> Result<Vec<u64>, AllocError>
         requires { HasVariablesBelow count self.now }
         ensures least { IfOk result (λ values. IsLeast self.now values.items) }
         ensures len { IfOk result (λ values. length values.items ≡ count) }
     {
-        self.solver.least(alloc, count)
+        self.solver.least(self.alloc, count)
     }
 }
 

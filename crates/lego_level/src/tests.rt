@@ -45,8 +45,8 @@ fn is_too_big(outcome: &Result<(), GraphFault>, want: Constraint, value: u64) ->
 /// What `extend` answers of `added` where `held` is held.
 fn outcome_of(alloc: Global, held: &[Constraint], added: &[Constraint]) -> Result<(), GraphFault> {
     let mut graph = Graph::new(alloc);
-    graph.extend(alloc, held)?;
-    graph.extend(alloc, added)
+    graph.extend(held)?;
+    graph.extend(added)
 }
 
 #[test]
@@ -55,9 +55,9 @@ fn a_chain_has_least_values(rt: HostRuntime) -> Result<(), Fail> {
     let mut graph = Graph::new(alloc);
     let first = at_most(variable(0, 1), variable(1, 0));
     let second = at_most(variable(1, 1), variable(2, 0));
-    let outcome = graph.extend(alloc, &[first, second]);
+    let outcome = graph.extend(&[first, second]);
     assert!(rt; outcome.is_ok());
-    let values = graph.least(alloc, 3)?;
+    let values = graph.least(3)?;
     assert!(rt; values.as_slice() == [0, 1, 2].as_slice());
     assert!(rt; graph.constraints() == [first, second].as_slice());
     Ok(())
@@ -74,6 +74,7 @@ fn answers_to_single_constraints(rt: HostRuntime) {
     let wrong = at_most(fixed(3), fixed(2));
     let far = at_most(fixed(1_000_000), variable(0, 0));
     let beyond = at_most(fixed(1_000_001), variable(0, 0));
+    let idle = at_most(variable(0, 0), variable(0, 0));
     let negative = at_most(variable(0, 1), fixed(0));
     let implied = at_most(fixed(0), variable(0, 0));
     assert!(rt; is_cycle(&outcome_of(alloc, &[rises], &[falls]), &[falls, rises]));
@@ -84,6 +85,7 @@ fn answers_to_single_constraints(rt: HostRuntime) {
     assert!(rt; is_too_big(&outcome_of(alloc, &[far], &[rises]), rises, 1_000_001));
     assert!(rt; outcome_of(alloc, &[], &[far]).is_ok());
     assert!(rt; is_too_big(&outcome_of(alloc, &[], &[beyond]), beyond, 1_000_001));
+    assert!(rt; is_too_big(&outcome_of(alloc, &[], &[idle, beyond]), beyond, 1_000_001));
     assert!(rt; is_cycle(&outcome_of(alloc, &[], &[negative]), &[negative, implied]));
     assert!(rt; is_cycle(&outcome_of(alloc, &[far], &[rises, falls]), &[falls, rises]));
 }
@@ -96,16 +98,16 @@ fn a_refusal_and_a_cut_go_back(rt: HostRuntime) -> Result<(), Fail> {
     let second = at_most(variable(0, 1), variable(1, 0));
     let third = at_most(fixed(7), variable(0, 0));
     let back = at_most(variable(1, 0), variable(0, 0));
-    assert!(rt; graph.extend(alloc, &[first, second]).is_ok());
-    assert!(rt; is_cycle(&graph.extend(alloc, &[third, back]), &[back, second]));
+    assert!(rt; graph.extend(&[first, second]).is_ok());
+    assert!(rt; is_cycle(&graph.extend(&[third, back]), &[back, second]));
     assert!(rt; graph.len() == 2 && graph.constraints() == [first, second].as_slice());
-    assert!(rt; graph.extend(alloc, &[third]).is_ok());
+    assert!(rt; graph.extend(&[third]).is_ok());
     assert!(rt; graph.len() == 3);
     if graph.len() >= 1 {
         graph.cut_to(1);
     }
     assert!(rt; graph.constraints() == [first].as_slice());
-    assert!(rt; graph.extend(alloc, &[back]).is_ok());
+    assert!(rt; graph.extend(&[back]).is_ok());
     Ok(())
 }
 
@@ -115,16 +117,16 @@ fn a_long_cycle_is_found(rt: HostRuntime) -> Result<(), Fail> {
     let mut graph = Graph::new(alloc);
     for number in 0..999u32 {
         let even = at_most(variable(number, 0), variable(number + 1, 0));
-        assert!(rt; graph.extend(alloc, &[even]).is_ok());
+        assert!(rt; graph.extend(&[even]).is_ok());
     }
     let closing = at_most(variable(999, 1), variable(0, 0));
-    match graph.extend(alloc, &[closing]) {
+    match graph.extend(&[closing]) {
         Err(GraphFault::Cycle(cycle)) => assert!(rt; cycle.items().len() == 1000),
         _ => assert!(rt; false),
     }
     assert!(rt; graph.len() == 999);
     let back = at_most(variable(999, 0), variable(0, 0));
-    assert!(rt; graph.extend(alloc, &[back]).is_ok());
+    assert!(rt; graph.extend(&[back]).is_ok());
     Ok(())
 }
 
@@ -134,21 +136,21 @@ fn a_chain_may_come_last_to_first(rt: HostRuntime) -> Result<(), Fail> {
     let mut graph = Graph::new(alloc);
     for number in (0..5000u32).rev() {
         let strict = at_most(variable(number, 1), variable(number + 1, 0));
-        assert!(rt; graph.extend(alloc, &[strict]).is_ok());
+        assert!(rt; graph.extend(&[strict]).is_ok());
     }
     let low = at_most(variable(5000, 0), fixed(4999));
-    assert!(rt; matches!(graph.extend(alloc, &[low]), Err(GraphFault::Cycle(_))));
+    assert!(rt; matches!(graph.extend(&[low]), Err(GraphFault::Cycle(_))));
     let high = at_most(variable(5000, 0), fixed(5000));
-    assert!(rt; graph.extend(alloc, &[high]).is_ok());
+    assert!(rt; graph.extend(&[high]).is_ok());
     let far = at_most(fixed(995_001), variable(0, 0));
-    assert!(rt; matches!(graph.extend(alloc, &[far]), Err(GraphFault::Cycle(_))));
+    assert!(rt; matches!(graph.extend(&[far]), Err(GraphFault::Cycle(_))));
     if graph.len() >= 5000 {
         graph.cut_to(5000);
     }
-    let outcome = graph.extend(alloc, &[far]);
+    let outcome = graph.extend(&[far]);
     assert!(rt; matches!(outcome, Err(GraphFault::LevelTooBig { .. })));
     let near = at_most(fixed(995_000), variable(0, 0));
-    assert!(rt; graph.extend(alloc, &[near]).is_ok());
+    assert!(rt; graph.extend(&[near]).is_ok());
     Ok(())
 }
 
@@ -214,15 +216,15 @@ fn small_graphs_agree_with_a_plain_search(rt: HostRuntime) -> Result<(), Fail> {
             pick(number / 2_985_984),
         ];
         let mut graph = Graph::new(alloc);
-        let outcome = graph.extend(alloc, &constraints);
-        let again = used.extend(alloc, &constraints);
+        let outcome = graph.extend(&constraints);
+        let again = used.extend(&constraints);
         assert!(rt; again.is_ok() == outcome.is_ok(), "at {turn}");
         used.cut_to(0);
         match try_all(&constraints) {
             None => assert!(rt; matches!(outcome, Err(GraphFault::Cycle(_))), "at {turn}"),
             Some(best) => {
                 assert!(rt; outcome.is_ok(), "at {turn}");
-                let values = graph.least(alloc, 3)?;
+                let values = graph.least(3)?;
                 assert!(rt; values.as_slice() == best.as_slice(), "at {turn}");
             }
         }
