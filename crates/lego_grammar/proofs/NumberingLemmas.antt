@@ -1,5 +1,5 @@
 -- How numbers are given to names, token by token.
-use Rattle.std.proofs.Common.{◌≡◌, ℕ, zero, suc, pred, ◌+◌, ◌<◌, List, [], ◌∷◌, ◌++◌, ◌||◌, Bool, true, false, map, length, slice_get, get_or, position, Some, None, ◌≤◌, ◌⊎◌, inl, inr, refl, sym, ap, ◌∙◌, subst, append_assoc, arith, length-append}
+use Rattle.std.proofs.Common.{◌≡◌, ℕ, zero, suc, ◌+◌, ◌<◌, List, [], ◌∷◌, ◌++◌, Bool, true, false, map, length, slice_get, get_or, position, Some, None, ◌≤◌, ◌⊎◌, inl, inr, refl, sym, ap, ◌∙◌, subst, append_assoc, arith, length-append}
 use Rattle.std.specs.Prelude.{Contains, slice_range}
 use Rattle.std.proofs.lemmas.List.{get_or-map, append-nil}
 use Rattle.std.proofs.lemmas.List.Elements.{All-append, Contains-append_cases, Contains-get_or}
