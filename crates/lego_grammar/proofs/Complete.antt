@@ -14,7 +14,7 @@ use Rattle.lego_grammar.specs.declared.surface.Part.{Part}
 use Rattle.lego_grammar.specs.declared.surface.Part.TheVariants.{First, Second}
 use Rattle.lego_grammar.specs.Written.{Written, Named, WrittenProp, Bind, Local, Apply, Couple, Project, NameAt, Says, Assumed, Defined, Bound, Deed, Order}
 use Rattle.lego_grammar.specs.Grammar as G
-use Rattle.lego_grammar.specs.Grammar.{Names, Nested, token, symbol, word, NameList, Form, Term, Ending, Tail, Spine, Post, Atom, Binder, Reads, ReadsBinding, ReadsBindings, ReadsNames, ReadsAct, ReadsCommand, places_of, names_of}
+use Rattle.lego_grammar.specs.Grammar.{Names, Nested, token, symbol, word, NameList, Form, Term, Ending, Sum, Spine, Post, Atom, Binder, Reads, ReadsBinding, ReadsBindings, ReadsNames, ReadsAct, ReadsCommand, places_of, names_of}
 use Rattle.lego_grammar.specs.Machine.{Site, InTerm, InContext, Use, ToShow, ToRefine, ToClaim, ToEquiv, ToHead, ToNormal, ToGoal, deed_of, Frame, ApplyTo, HashFrom, ArrowFrom, BodyOf, BodyWith, Parens, SecondOf, TypeOf, DomainOf, ValueOf, StatedFor, Whole, Mode, Start, Want, WantLevel, Behind, WantPart, WantName, BehindName, Between, BehindGoal, BehindGoalName, WantIntros, Done, keep, number, height, settled, summed, closed}
 use Rattle.lego_grammar.specs.Scanning.{start_of}
 use Rattle.lego_grammar.proofs.Transitions.{Operand, Closes, Move, Fits, TermWord, WaitingWord, Runs, runs_on, run_one}
@@ -94,7 +94,7 @@ module _ (names : Names) (b : Bool) where
   abbrev pub Ready : Form → List Frame → Type 0
   Ready Term fs = ((v : Written) → settled b v fs ≡ (v, fs)) × ((v : Written) → summed b v fs ≡ (v, fs))
   Ready Ending fs = (v : Written) → settled b v fs ≡ (v, fs)
-  Ready Tail fs = (v : Written) → settled b v fs ≡ (v, fs)
+  Ready Sum fs = (v : Written) → settled b v fs ≡ (v, fs)
   Ready Spine fs = (v : Written) → settled b v fs ≡ (v, fs)
   Ready Post fs = Unit {0}
   Ready Atom fs = Unit {0}
@@ -107,7 +107,7 @@ module _ (names : Names) (b : Bool) where
   Reached Spine fs ts s =
       (l : Bool) × (v : Written) × (gs : List Frame) × Runs names b Want fs ts (Behind l v) gs
       × (settled b v gs ≡ settled b (keep b s) fs) × (summed b v gs ≡ summed b (keep b s) fs) × (closed b v gs ≡ closed b (keep b s) fs)
-  Reached Tail fs ts s =
+  Reached Sum fs ts s =
       (l : Bool) × (v : Written) × (gs : List Frame) × Runs names b Want fs ts (Behind l v) gs
       × (closed b v gs ≡ closed b (keep b s) fs) × (summed b v gs ≡ summed b (keep b s) fs)
   Reached _ fs ts s =
@@ -173,7 +173,7 @@ module _ (names : Names) (b : Bool) where
 
   complete : (fs : List Frame) {d : ℕ} {form : Form} {ts : List Nested} {s : Written} → Reads names d form ts s → Same (height fs) d → Ready form fs → Reached form fs ts s
   complete fs (Reads.term_ending r) same h = complete fs r same h.0
-  complete fs (Reads.term_tail r) same h = let x = complete fs r same h.0 in (x.0, x.1, x.2, x.3, x.4)
+  complete fs (Reads.term_sum r) same h = let x = complete fs r same h.0 in (x.0, x.1, x.2, x.3, x.4)
   complete fs (Reads.arrow p {a = a} {b = c} ra rb) same h =
       let x = complete fs ra same h.0 in let y = complete (ArrowFrom (keep b a) ∷ fs) rb same (λ v. refl, λ v. refl) in
       (y.0, y.1, y.2, runs_on x.3 (arrow_on p (x.5 ∙ h.1 (keep b a)) y.3), y.4 ∙ ap (λ w. closed b w fs) (kept-bind b Pi Plain [] a c))
@@ -187,8 +187,8 @@ module _ (names : Names) (b : Bool) where
   complete fs (Reads.hash_ending p {a = a} {b = c} ra rb) same h =
       let x = complete fs ra same h in let y = complete (HashFrom (keep b a) ∷ fs) rb same (λ v. refl) in
       (y.0, y.1, y.2, runs_on x.3 (hash_on p (x.4 ∙ h (keep b a)) y.3), y.4 ∙ ap (λ w. closed b w fs) (kept-bind b Sigma Plain [] a c))
-  complete fs (Reads.tail_spine r) same h = let x = complete fs r same h in (x.0, x.1, x.2, x.3, x.6, x.5)
-  complete fs (Reads.hash_tail p {a = a} {b = c} ra rb) same h =
+  complete fs (Reads.sum_spine r) same h = let x = complete fs r same h in (x.0, x.1, x.2, x.3, x.6, x.5)
+  complete fs (Reads.hash_sum p {a = a} {b = c} ra rb) same h =
       let x = complete fs ra same h in let y = complete (HashFrom (keep b a) ∷ fs) rb same (λ v. refl) in (
         y.0,
         y.1,

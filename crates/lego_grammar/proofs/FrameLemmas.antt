@@ -1,9 +1,9 @@
 -- The level of a stack.
-use Rattle.std.proofs.Common.{◌≡◌, ℕ, suc, ◌≤◌, List, [], ◌∷◌, length, Bool, true, false, if◌then◌else◌, arith, map, refl, sym, ap, ◌∙◌}
+use Rattle.std.proofs.Common.{◌≡◌, ℕ, suc, ◌≤◌, List, [], ◌∷◌, length, Bool, true, false, if◌then◌else◌, arith, map, refl, ap, ◌∙◌}
 use Rattle.std.specs.Prelude.{reverse}
 use Rattle.std.proofs.lemmas.List.{length-reverse, length-map}
 use Rattle.lego_grammar.specs.Written.{Written}
-use Rattle.lego_grammar.specs.Machine.{Frame, nests, height, applies, sums, pending, wrapped, settled, summed, closed}
+use Rattle.lego_grammar.specs.Machine.{Frame, nests, height, sums, pending, wrapped, summed, closed}
 
 one_more : (b : Bool) (m n : ℕ) → m ≤ n → (if b then suc m else m) ≤ suc n
 one_more true m n h = omega (arith, h)
@@ -19,22 +19,10 @@ height-awaited g xs =
     let e : length (reverse (map g xs)) ≡ length xs = length-reverse (map g xs) ∙ length-map xs g in
     omega (arith, h, e)
 
--- what an operand ends of the frames, by the frame on top
+-- what a spine and a term end of the frames, by the frame on top
 module _ (b : Bool) (f : Frame) (fs gs : List Frame) (top : fs ≡ f ∷ gs) where
-  pub settled_apply : (v : Written) → applies f ≡ true → settled b v fs ≡ (wrapped b f v, gs)
-  settled_apply v h = ap (settled b v) top ∙ rw h refl
-
-  pub settled_end : (v : Written) → applies f ≡ false → settled b v fs ≡ (v, fs)
-  settled_end v h = ap (settled b v) top ∙ (rw h refl ∙ ap (λ (l : List Frame). (v, l)) (sym top))
-
   pub summed_more : (v : Written) → sums f ≡ true → summed b v fs ≡ summed b (wrapped b f v) gs
   summed_more v h = ap (summed b v) top ∙ rw h refl
 
-  pub summed_end : (v : Written) → sums f ≡ false → summed b v fs ≡ (v, fs)
-  summed_end v h = ap (summed b v) top ∙ (rw h refl ∙ ap (λ (l : List Frame). (v, l)) (sym top))
-
   pub closed_more : (v : Written) → pending f ≡ true → closed b v fs ≡ closed b (wrapped b f v) gs
   closed_more v h = ap (closed b v) top ∙ rw h refl
-
-  pub closed_end : (v : Written) → pending f ≡ false → closed b v fs ≡ (v, f ∷ gs)
-  closed_end v h = ap (closed b v) top ∙ rw h refl

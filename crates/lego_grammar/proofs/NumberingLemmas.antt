@@ -1,5 +1,5 @@
 -- How numbers are given to names, token by token.
-use Rattle.std.proofs.Common.{◌≡◌, ℕ, zero, suc, pred, ◌+◌, ◌<◌, List, [], ◌∷◌, ◌++◌, ◌||◌, Bool, true, false, map, length, slice_get, get_or, position, Some, None, ◌≤◌, ◌⊎◌, inl, inr, refl, sym, ap, ◌∙◌, subst, append_assoc, arith, length-append}
+use Rattle.std.proofs.Common.{◌≡◌, ℕ, zero, suc, ◌+◌, ◌<◌, List, [], ◌∷◌, ◌++◌, Bool, true, false, map, length, slice_get, get_or, position, Some, None, ◌≤◌, ◌⊎◌, inl, inr, refl, sym, ap, ◌∙◌, subst, append_assoc, arith, length-append}
 use Rattle.std.specs.Prelude.{Contains, slice_range}
 use Rattle.std.proofs.lemmas.List.{get_or-map, append-nil}
 use Rattle.std.proofs.lemmas.List.Elements.{All-append, Contains-append_cases, Contains-get_or}
@@ -8,6 +8,7 @@ use Rattle.std.proofs.lemmas.Bool.Decides.{nat_tests}
 use Rattle.std.proofs.lemmas.List.Quantifiers.{position-Some}
 use Rattle.std.proofs.lemmas.List.Sums.{fails_before_first}
 use Rattle.std.proofs.lemmas.Option.{slice_get-get_or, slice_get_within}
+use Rattle.std.specs.Option.{unwrap_or}
 use Rattle.std.proofs.lemmas.Cmp.{nat_list_eq_equiv}
 use Rattle.std.proofs.lemmas.Map.Keys.{any_passes_from_place}
 use Rattle.std.specs.Cmp.Lexicographic.{bytes_decides}
@@ -20,7 +21,7 @@ use Rattle.lego_lexer.specs.declared.token.TokenKind.{TokenKind}
 use Rattle.lego_lexer.specs.declared.token.TokenKind.TheVariants as Kind
 use Rattle.std.proofs.lemmas.Bool.{cases_eq, cases_lt}
 use Rattle.lego_grammar.specs.Grammar.{Names, Item, item_of}
-use Rattle.lego_grammar.specs.Parsing.{GrowsBy, AreTooMany, Differ}
+use Rattle.lego_grammar.specs.Parsing.{GrowsBy, AreTooMany}
 use Rattle.lego_grammar.specs.Numbering.{HasNumber, IsNumberOf, IsNumberingFault}
 use Rattle.lego_grammar.specs.declared.fault.ParseFault.{ParseFault}
 use Rattle.lego_grammar.specs.declared.fault.ParseFault.TheVariants as Fault
@@ -31,10 +32,6 @@ lexeme_in t = t.lexeme
 -- the text is that of a name among the tokens
 abbrev Among : List Item → List ℕ → Type 0
 Among tokens text = Contains (map (λ t. t.lexeme) tokens) (Name text)
-
--- what is at an index, but for the first
-not_suc : (n : ℕ) → 0 ≡ suc n → ⊥
-not_suc n e = omega (arith, e)
 
 -- a name of one of the tokens is a name of them all
 one_of : (tokens : List Item) (t : Item) (text : List ℕ) → Contains tokens t → Among (t ∷ []) text → Among tokens text
@@ -94,24 +91,29 @@ too_many_before tokens t old mid fault w g (inr (full, many)) = inr (
         held text (inl a) = inl a
         held text (inr (k, lt, is)) = inr (subst (Among tokens) is (g.from k text lt))
 
-or_false : (a b : Bool) → (a || b) ≡ false → (a ≡ false) × (b ≡ false)
-or_false false b h = (refl, h)
-or_false true b h = absurd (true_is_false _ refl h)
+-- what stands among names behind which one more was put
+pushed_at : (names : Names) (text u : List ℕ) (i : ℕ) → slice_get (names ++ text ∷ []) i ≡ Some u → (slice_get names i ≡ Some u) ⊎ ((i ≡ length names) × (text ≡ u))
+pushed_at [] text u zero h = inr (refl, ap (λ o. unwrap_or o text) h)
+pushed_at [] text u (suc i) h = absurd (omega (arith, slice_get_within {A = List ℕ} [] i u h))
+pushed_at (x ∷ names) text u zero h = inl h
+pushed_at (x ∷ names) text u (suc i) h = one_on (pushed_at names text u i h)
+  where
+    one_on : (slice_get names i ≡ Some u) ⊎ ((i ≡ length names) × (text ≡ u)) → (slice_get names i ≡ Some u) ⊎ ((suc i ≡ suc (length names)) × (text ≡ u))
+    one_on (inl g) = inl g
+    one_on (inr (e, is)) = inr (ap suc e, is)
 
 -- what differs, with one more
-differ-push : (names : Names) (text : List ℕ) → AreDistinct names → has_name names text ≡ false → Differ (names ++ text ∷ [])
-differ-push [] text apart new = ((λ k d h. absurd (omega (arith, h))), tt)
-differ-push (x ∷ names) text apart new =
-    let both = or_false (same_text text x) (has_name names text) new in (
-      All-append (λ y. x ≡ y → ⊥) names (text ∷ [])
-          (λ k d lt e. not_suc k (apart 0 (suc k) x refl (slice_get-get_or names k d lt ∙ ap (λ z. Some z) (sym e))))
-          (λ k d lt e. true_is_false _ (nat_list_eq_equiv.refl text) (ap (same_text text) (sym (only k d lt) ∙ sym e) ∙ both.0)),
-      differ-push names text (λ i j u g h. ap pred (apart (suc i) (suc j) u g h)) both.1,
-    )
+distinct_push : (names : Names) (text : List ℕ) → AreDistinct names → has_name names text ≡ false → AreDistinct (names ++ text ∷ [])
+distinct_push names text apart new i j u g h = by_places (pushed_at names text u i g) (pushed_at names text u j h)
   where
-    only : (k : ℕ) (d : List ℕ) → k < 1 → get_or (text ∷ []) k d ≡ text
-    only zero d lt = refl
-    only (suc k) d lt = absurd (omega (arith, lt))
+    missing : (k : ℕ) → slice_get names k ≡ Some text → ⊥
+    missing k is = true_is_false _ (any_passes_from_place (same_text text) names k text is (nat_list_eq_equiv.refl text)) new
+
+    by_places : (slice_get names i ≡ Some u) ⊎ ((i ≡ length names) × (text ≡ u)) → (slice_get names j ≡ Some u) ⊎ ((j ≡ length names) × (text ≡ u)) → i ≡ j
+    by_places (inl a) (inl b) = apart i j u a b
+    by_places (inl a) (inr b) = absurd (missing i (a ∙ ap (λ z. Some z) (sym b.1)))
+    by_places (inr a) (inl b) = absurd (missing j (b ∙ ap (λ z. Some z) (sym a.1)))
+    by_places (inr a) (inr b) = a.0 ∙ sym b.0
 
 module _ (p : Place) (text : List ℕ) where
   abbrev named : Item
@@ -124,7 +126,7 @@ module _ (p : Place) (text : List ℕ) where
   pub one_too_many : (names : Names) → AreDistinct names → has_name names text ≡ false → length names ≡ 1048576 → AreTooMany names (named ∷ [])
   one_too_many names apart new long = record {
     texts = names ++ text ∷ [];
-    distinct = differ-push names text apart new;
+    distinct = distinct_push names text apart new;
     from = All-append (λ u. Contains names u ⊎ Among (named ∷ []) u) names (text ∷ []) (λ k d lt. inl (Contains-get_or names k d lt)) only;
     many = omega (arith, long, length-append names (text ∷ []));
   }
@@ -198,17 +200,7 @@ module _ (bytes : List ℕ) (t : Token) (is : t.kind ≡ Kind.Name) where
   token_too_many names apart new long =
       inr (refl, subst (λ k. AreTooMany names (item_so k ∷ [])) (sym is) (one_too_many t.place text_of names apart new long))
 
--- a token of another kind needs no number
-pub no_name_needs : (bytes : List ℕ) (t : Token) (names : Names) → (t.kind ≡ Kind.Name → ⊥) → HasNumber names (lexeme_of bytes t.kind t.from t.to)
-no_name_needs bytes t names other = by_kind t.kind other
-  where
-    by_kind : (k : TokenKind) → (k ≡ Kind.Name → ⊥) → HasNumber names (lexeme_of bytes k t.from t.to)
-    by_kind Kind.Name other = absurd (other refl)
-    by_kind (Kind.Number n) other = tt
-    by_kind (Kind.Word w) other = tt
-    by_kind (Kind.Symbol s) other = tt
-
--- and has the number 0
+-- a token of another kind has the number 0
 pub other_number : (bytes : List ℕ) (t : Token) (names : Names) → (t.kind ≡ Kind.Name → ⊥) → IsNumberOf names (lexeme_of bytes t.kind t.from t.to) 0
 other_number bytes t names other = by_kind t.kind other
   where
@@ -241,9 +233,3 @@ module _ (bytes : List ℕ) (tokens : List Token) (i : ℕ) (t : Token) (lt : i 
 
   pub item_among : Contains (map (item_of bytes) tokens) (item_of bytes (get_or tokens i t))
   item_among = (i, omega (arith, lt, long_as bytes tokens), item_at (item_of bytes (get_or tokens i t)))
-
--- a text that has a number is interned already
-pub interned_already : (names : Names) (text : List ℕ) → HasNumber names (Name text) → interned names text ≡ names
-interned_already names text (n, is) =
-    let there : has_name names text ≡ true = any_passes_from_place (same_text text) names n text is (nat_list_eq_equiv.refl text) in
-    rw there refl

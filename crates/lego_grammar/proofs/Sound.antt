@@ -11,7 +11,7 @@ use Rattle.lego_grammar.specs.declared.surface.Kind.TheVariants.{Lambda, Pi, Sig
 use Rattle.lego_grammar.specs.declared.surface.Part.TheVariants.{First, Second}
 use Rattle.lego_grammar.specs.Written.{Written, Named, WrittenProp, AnyType, TypeAt, GoalAt, Apply, Couple, Project, NameAt, Assumed, Defined, Bound, Deed, Order}
 use Rattle.lego_grammar.specs.Grammar as G
-use Rattle.lego_grammar.specs.Grammar.{Names, Nested, token, symbol, word, NameList, Form, Term, Ending, Tail, Spine, Post, Atom, Binder, Reads, ReadsBinding, ReadsBindings, ReadsNames, ReadsAct, ReadsCommand, places_of, names_of, opening, closing, sign, MayBind}
+use Rattle.lego_grammar.specs.Grammar.{Names, Nested, token, symbol, word, NameList, Form, Term, Ending, Sum, Spine, Post, Atom, Binder, Reads, ReadsBinding, ReadsBindings, ReadsNames, ReadsAct, ReadsCommand, places_of, names_of, opening, closing, sign, MayBind}
 use Rattle.lego_grammar.specs.Machine.{Site, InTerm, InContext, Use, ToShow, ToGoal, deed_of, Frame, ApplyTo, HashFrom, ArrowFrom, BodyOf, BodyWith, Parens, SecondOf, TypeOf, DomainOf, ValueOf, StatedFor, Whole, Mode, Start, Want, WantLevel, CloseLevel, Behind, WantPart, WantGoal, WantName, BehindName, Between, BehindGoal, BehindGoalName, WantIntros, WantNext, WantUndo, WantForget, WantDischarge, BehindSave, WantEnd, Done, keep, number, height, settled, summed, closed}
 use Rattle.lego_grammar.proofs.Transitions.{Operand, Closes, Move, Fits, TermWord, WaitingWord, bound, kind_of}
 use Rattle.lego_grammar.proofs.Complete.{kept-named, kept-prop, kept-apply, kept-project, kept-couple, kept-bind, kept-local, numbered, kept_bound, kept_deed, height-settled}
@@ -56,7 +56,7 @@ module _ (names : Names) (b : Bool) where
     hash : {ws ts : List Nested} {fs : List Frame} {a : Written} (p : Place)
         → Awaits ws fs → NoApply fs → Reads names (height fs) Spine ts a → Awaits (ws ++ (ts ++ symbol (height fs) p Hash ∷ [])) (HashFrom (keep b a) ∷ fs)
     arrow : {ws ts : List Nested} {fs : List Frame} {a : Written} (p : Place)
-        → Awaits ws fs → NoSum fs → Reads names (height fs) Tail ts a → Awaits (ws ++ (ts ++ symbol (height fs) p Arrow ∷ [])) (ArrowFrom (keep b a) ∷ fs)
+        → Awaits ws fs → NoSum fs → Reads names (height fs) Sum ts a → Awaits (ws ++ (ts ++ symbol (height fs) p Arrow ∷ [])) (ArrowFrom (keep b a) ∷ fs)
     body : {ws ns ts : List Nested} {fs : List Frame} {k : Kind} {m : Mark} {xs : List NameAt} {a : Written} (p q r : Place)
         → Awaits ws fs → MayBind k m → NameList names (suc (height fs)) ns xs → Reads names (suc (height fs)) Term ts a
         → Awaits (ws ++ ((symbol (height fs) p (opening k) ∷ ns ++ symbol (suc (height fs)) q (sign m) ∷ ts) ++ symbol (height fs) r (closing k) ∷ []))
@@ -95,14 +95,14 @@ module _ (names : Names) (b : Bool) where
   data Got (d : ℕ) (ts : List Nested) (s : Written) : Type 0 where
     post : Reads names d Post ts s → Got d ts s
     binder : Reads names d Binder ts s → Got d ts s
-    sum : Reads names d Tail ts s → Got d ts s
+    sum : Reads names d Sum ts s → Got d ts s
     ending : Reads names d Ending ts s → Got d ts s
     term : Reads names d Term ts s → Got d ts s
 
   as_term : {d : ℕ} {ts : List Nested} {s : Written} → Got d ts s → Reads names d Term ts s
-  as_term (Got.post r) = Reads.term_tail (Reads.tail_spine (Reads.spine_post r))
+  as_term (Got.post r) = Reads.term_sum (Reads.sum_spine (Reads.spine_post r))
   as_term (Got.binder r) = Reads.term_ending (Reads.ending_binder r)
-  as_term (Got.sum r) = Reads.term_tail r
+  as_term (Got.sum r) = Reads.term_sum r
   as_term (Got.ending r) = Reads.term_ending r
   as_term (Got.term r) = r
 
@@ -114,7 +114,7 @@ module _ (names : Names) (b : Bool) where
   Suits (HashFrom _ ∷ _) (Got.term r) = ⊥
   Suits _ _ = Unit {0}
 
-  suits_sum : {d : ℕ} {ts : List Nested} {s : Written} (fs : List Frame) (r : Reads names d Tail ts s) → NoApply fs → Suits fs (Got.sum r)
+  suits_sum : {d : ℕ} {ts : List Nested} {s : Written} (fs : List Frame) (r : Reads names d Sum ts s) → NoApply fs → Suits fs (Got.sum r)
   suits_sum (ApplyTo _ _ ∷ _) r n = n
   suits_sum _ r n = tt
 
@@ -159,19 +159,19 @@ module _ (names : Names) (b : Bool) where
   close : {ws ts : List Nested} {s v : Written} {f : Frame} {fs gs : List Frame}
       → Awaits ws fs → (r : Got (height fs) ts s) → Suits fs r → closed b (keep b s) fs ≡ (v, f ∷ gs) → Ended (ws ++ ts) v f gs
   close {ts = ts} {s = s} (Awaits.apply {ws} {ts = us} {fs} {f} a n q) (Got.post r) h e =
-      same_tokens (sym (append_assoc ws us ts)) (close a (Got.sum (Reads.tail_spine (Reads.apply q r))) (suits_sum fs _ n) (sym (ap (λ w. closed b w fs) (kept-apply b Plain f s)) ∙ e))
+      same_tokens (sym (append_assoc ws us ts)) (close a (Got.sum (Reads.sum_spine (Reads.apply q r))) (suits_sum fs _ n) (sym (ap (λ w. closed b w fs) (kept-apply b Plain f s)) ∙ e))
   close {ts = ts} {s = s} (Awaits.apply {ws} {ts = us} {fs} {f} a n q) (Got.binder r) h e =
       same_tokens (sym (append_assoc ws us ts)) (close a (Got.ending (Reads.apply_binder q r)) (suits_ending fs _ n) (sym (ap (λ w. closed b w fs) (kept-apply b Plain f s)) ∙ e))
   close (Awaits.apply a n q) _ h e = absurd h
   close {ts = ts} {s = s} (Awaits.apply_bar {ws} {ts = us} {fs} {f} p a n q) (Got.post r) h e =
-      same_tokens (glue ws us _ ts) (close a (Got.sum (Reads.tail_spine (Reads.apply_bar p q r))) (suits_sum fs _ n) (sym (ap (λ w. closed b w fs) (kept-apply b Implicit f s)) ∙ e))
+      same_tokens (glue ws us _ ts) (close a (Got.sum (Reads.sum_spine (Reads.apply_bar p q r))) (suits_sum fs _ n) (sym (ap (λ w. closed b w fs) (kept-apply b Implicit f s)) ∙ e))
   close {ts = ts} {s = s} (Awaits.apply_bar {ws} {ts = us} {fs} {f} p a n q) (Got.binder r) h e =
       same_tokens (glue ws us _ ts) (close a (Got.ending (Reads.apply_bar_binder p q r)) (suits_ending fs _ n) (sym (ap (λ w. closed b w fs) (kept-apply b Implicit f s)) ∙ e))
   close (Awaits.apply_bar p a n q) _ h e = absurd h
   close {ts = ts} {s = s} (Awaits.hash {ws} {ts = us} {fs} {a = f} p a n q) (Got.post r) h e =
-      same_tokens (glue ws us _ ts) (close a (Got.sum (Reads.hash_tail p q (Reads.tail_spine (Reads.spine_post r)))) (suits_sum fs _ n) (sym (ap (λ w. closed b w fs) (kept-bind b Sigma Plain [] f s)) ∙ e))
+      same_tokens (glue ws us _ ts) (close a (Got.sum (Reads.hash_sum p q (Reads.sum_spine (Reads.spine_post r)))) (suits_sum fs _ n) (sym (ap (λ w. closed b w fs) (kept-bind b Sigma Plain [] f s)) ∙ e))
   close {ts = ts} {s = s} (Awaits.hash {ws} {ts = us} {fs} {a = f} p a n q) (Got.sum r) h e =
-      same_tokens (glue ws us _ ts) (close a (Got.sum (Reads.hash_tail p q r)) (suits_sum fs _ n) (sym (ap (λ w. closed b w fs) (kept-bind b Sigma Plain [] f s)) ∙ e))
+      same_tokens (glue ws us _ ts) (close a (Got.sum (Reads.hash_sum p q r)) (suits_sum fs _ n) (sym (ap (λ w. closed b w fs) (kept-bind b Sigma Plain [] f s)) ∙ e))
   close {ts = ts} {s = s} (Awaits.hash {ws} {ts = us} {fs} {a = f} p a n q) (Got.binder r) h e =
       same_tokens (glue ws us _ ts) (close a (Got.ending (Reads.hash_ending p q (Reads.ending_binder r))) (suits_ending fs _ n) (sym (ap (λ w. closed b w fs) (kept-bind b Sigma Plain [] f s)) ∙ e))
   close {ts = ts} {s = s} (Awaits.hash {ws} {ts = us} {fs} {a = f} p a n q) (Got.ending r) h e =
@@ -214,7 +214,7 @@ module _ (names : Names) (b : Bool) where
     whole : before ++ tokens ≡ all
     awaits : Awaits before fs
     free : NoSum fs
-    reads : Reads names (height fs) Tail tokens tree
+    reads : Reads names (height fs) Sum tokens tree
     is : v ≡ keep b tree
 
   same_summed : {all all' : List Nested} {v v' : Written} {fs fs' : List Frame} → all ≡ all' → ◌≡◌ {A = Written × List Frame} (v, fs) (v', fs') → Summed all v fs → Summed all' v' fs'
@@ -222,22 +222,22 @@ module _ (names : Names) (b : Bool) where
       subst (λ y. Summed all' y.0 y.1) d (record { before = x.before; tokens = x.tokens; tree = x.tree; whole = x.whole ∙ e; awaits = x.awaits; free = x.free; reads = x.reads; is = x.is })
 
   sum_tail : {ws ts : List Nested} {s : Written} {fs : List Frame}
-      → Awaits ws fs → NoApply fs → Reads names (height fs) Tail ts s → Summed (ws ++ ts) (summed b (keep b s) fs).0 (summed b (keep b s) fs).1
+      → Awaits ws fs → NoApply fs → Reads names (height fs) Sum ts s → Summed (ws ++ ts) (summed b (keep b s) fs).0 (summed b (keep b s) fs).1
   sum_tail (Awaits.apply a n q) h r = absurd h
   sum_tail (Awaits.apply_bar p a n q) h r = absurd h
   sum_tail {ts = ts} {s = s} (Awaits.hash {ws} {ts = us} {fs} {a = f} p a n q) h r =
-      same_summed (glue ws us _ ts) (ap (λ w. summed b w fs) (sym (kept-bind b Sigma Plain [] f s))) (sum_tail a n (Reads.hash_tail p q r))
+      same_summed (glue ws us _ ts) (ap (λ w. summed b w fs) (sym (kept-bind b Sigma Plain [] f s))) (sum_tail a n (Reads.hash_sum p q r))
   sum_tail {ws} {ts} {s} a h r = record { before = ws; tokens = ts; tree = s; whole = refl; awaits = a; free = tt; reads = r; is = refl }
 
   sum_of : {ws ts : List Nested} {s : Written} {fs : List Frame}
       → Awaits ws fs → Reads names (height fs) Post ts s → Summed (ws ++ ts) (summed b (keep b s) fs).0 (summed b (keep b s) fs).1
   sum_of {ts = ts} {s = s} (Awaits.apply {ws} {ts = us} {fs} {f} a n q) r =
-      same_summed (sym (append_assoc ws us ts)) (ap (λ w. summed b w fs) (sym (kept-apply b Plain f s))) (sum_tail a n (Reads.tail_spine (Reads.apply q r)))
+      same_summed (sym (append_assoc ws us ts)) (ap (λ w. summed b w fs) (sym (kept-apply b Plain f s))) (sum_tail a n (Reads.sum_spine (Reads.apply q r)))
   sum_of {ts = ts} {s = s} (Awaits.apply_bar {ws} {ts = us} {fs} {f} p a n q) r =
-      same_summed (glue ws us _ ts) (ap (λ w. summed b w fs) (sym (kept-apply b Implicit f s))) (sum_tail a n (Reads.tail_spine (Reads.apply_bar p q r)))
+      same_summed (glue ws us _ ts) (ap (λ w. summed b w fs) (sym (kept-apply b Implicit f s))) (sum_tail a n (Reads.sum_spine (Reads.apply_bar p q r)))
   sum_of {ts = ts} {s = s} (Awaits.hash {ws} {ts = us} {fs} {a = f} p a n q) r =
-      same_summed (glue ws us _ ts) (ap (λ w. summed b w fs) (sym (kept-bind b Sigma Plain [] f s))) (sum_tail a n (Reads.hash_tail p q (Reads.tail_spine (Reads.spine_post r))))
-  sum_of {ws} {ts} {s} a r = record { before = ws; tokens = ts; tree = s; whole = refl; awaits = a; free = tt; reads = Reads.tail_spine (Reads.spine_post r); is = refl }
+      same_summed (glue ws us _ ts) (ap (λ w. summed b w fs) (sym (kept-bind b Sigma Plain [] f s))) (sum_tail a n (Reads.hash_sum p q (Reads.sum_spine (Reads.spine_post r))))
+  sum_of {ws} {ts} {s} a r = record { before = ws; tokens = ts; tree = s; whole = refl; awaits = a; free = tt; reads = Reads.sum_spine (Reads.spine_post r); is = refl }
 
   -- the operand is `Type`, where a level may follow
   abbrev IsType : Bool → ℕ → List Nested → Written → Type 0
@@ -350,14 +350,14 @@ module _ (names : Names) (b : Bool) where
   -- a term has a first token
   first_token : {d : ℕ} {form : Form} {ts : List Nested} {s : Written} → Reads names d form ts s → (t : Nested) × (us : List Nested) × (ts ≡ t ∷ us)
   first_token (Reads.term_ending r) = first_token r
-  first_token (Reads.term_tail r) = first_token r
+  first_token (Reads.term_sum r) = first_token r
   first_token (Reads.arrow {d} p {us = us} r q) = longer (symbol d p Arrow ∷ us) (first_token r)
   first_token (Reads.ending_binder r) = first_token r
   first_token (Reads.apply_binder {us = us} r q) = longer us (first_token r)
   first_token (Reads.apply_bar_binder {d} p {us = us} r q) = longer (symbol d p Bar ∷ us) (first_token r)
   first_token (Reads.hash_ending {d} p {us = us} r q) = longer (symbol d p Hash ∷ us) (first_token r)
-  first_token (Reads.tail_spine r) = first_token r
-  first_token (Reads.hash_tail {d} p {us = us} r q) = longer (symbol d p Hash ∷ us) (first_token r)
+  first_token (Reads.sum_spine r) = first_token r
+  first_token (Reads.hash_sum {d} p {us = us} r q) = longer (symbol d p Hash ∷ us) (first_token r)
   first_token (Reads.spine_post r) = first_token r
   first_token (Reads.apply {us = us} r q) = longer us (first_token r)
   first_token (Reads.apply_bar {d} p {us = us} r q) = longer (symbol d p Bar ∷ us) (first_token r)

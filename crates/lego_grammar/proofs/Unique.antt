@@ -1,5 +1,6 @@
 -- A list of tokens has at most one reading, and each of its tokens one nesting.
 use Rattle.std.proofs.Common.{◌≡◌, ◌⊎◌, inl, inr, ℕ, List, [], ◌∷◌, ◌++◌, Bool, true, false, Option, Some, None, map, refl, sym, ap, ◌∙◌, subst, append_assoc}
+use Rattle.lego_base.specs.Names.{AreDistinct}
 use Rattle.lego_base.specs.declared.place.Place.{Place}
 use Rattle.lego_term.specs.declared.binder.Mark.TheVariants.{Plain, Implicit}
 use Rattle.lego_lexer.specs.Tokens.{Lexeme, Name, Number, OfWord, OfSymbol}
@@ -7,7 +8,6 @@ use Rattle.lego_lexer.specs.declared.token.Symbol.TheVariants.{OpenSquare, Close
 use Rattle.lego_grammar.specs.declared.surface.Kind.TheVariants.{Lambda, Pi, Sigma}
 use Rattle.lego_grammar.specs.Written.{Written, Says, Assumed, Defined, Bound, Deed, Order}
 use Rattle.lego_grammar.specs.Grammar.{Names, Nested, Item, item, token, symbol, sign, ReadsBinding, ReadsBindings, ReadsAct, ReadsCommand, IsContext, TermWord, NumberWord, NameWord, LoneWord}
-use Rattle.lego_grammar.specs.Laws.{Differ}
 use Rattle.lego_grammar.specs.Machine.{Frame, Mode, Want, Between, Done, State, state, move}
 use Rattle.lego_grammar.specs.Scanning.{class, start_of}
 use Rattle.lego_grammar.proofs.Transitions.{Closes, Operand, Move, Fits, Runs}
@@ -228,14 +228,14 @@ deed_in d (Done deed) = deed
 deed_in d _ = d
 
 -- the same number for the same text
-agree : (names : Names) → Differ names → (x : Lexeme) (n n' : ℕ) → Fits names true x n → Fits names true x n' → n ≡ n'
+agree : (names : Names) → AreDistinct names → (x : Lexeme) (n n' : ℕ) → Fits names true x n → Fits names true x n' → n ≡ n'
 agree names d (Name text) n n' f g = f.2 ∙ (d f.0 g.0 text f.1 g.1 ∙ sym g.2)
 agree names d (Number i) n n' f g = f ∙ sym g
 agree names d (OfWord w) n n' f g = f ∙ sym g
 agree names d (OfSymbol s) n n' f g = f ∙ sym g
 
 -- A list of tokens has at most one reading, in which each token has one nesting.
-pub one_reading : (names : Names) {ts us : List Nested} {c c' : Order} → Differ names → ReadsCommand names ts c → ReadsCommand names us c' → map item ts ≡ map item us
+pub one_reading : (names : Names) {ts us : List Nested} {c c' : Order} → AreDistinct names → ReadsCommand names ts c → ReadsCommand names us c' → map item ts ≡ map item us
     → (ts ≡ us) × (c ≡ c')
 one_reading names {ts} {us} {c} {c'} d r q e =
     let start = same_start c.deed c'.deed (contexts_agree r q (sym e)) (contexts_agree q r e) in

@@ -68,14 +68,14 @@ pub data NameList (names : Names) (d : ℕ) : List Nested → List NameAt → Ty
 
 -- the forms of a written term
 pub data Form : Type 0 where
-  Term Ending Tail Spine Post Atom Binder : Form
+  Term Ending Sum Spine Post Atom Binder : Form
 
--- The tokens, which stand at nesting d, are read as this written term. `Tail` is what the grammar calls a sum.
+-- The tokens, which stand at nesting d, are read as this written term.
 pub data Reads (names : Names) : ℕ → Form → List Nested → Written → Type 0 where
   term_ending : {d : ℕ} {ts : List Nested} {s : Written} → Reads names d Ending ts s → Reads names d Term ts s
-  term_tail : {d : ℕ} {ts : List Nested} {s : Written} → Reads names d Tail ts s → Reads names d Term ts s
+  term_sum : {d : ℕ} {ts : List Nested} {s : Written} → Reads names d Sum ts s → Reads names d Term ts s
   arrow : {d : ℕ} (p : Place) {ts us : List Nested} {a b : Written}
-      → Reads names d Tail ts a → Reads names (suc d) Term us b
+      → Reads names d Sum ts a → Reads names (suc d) Term us b
       → Reads names d Term (ts ++ symbol d p Arrow ∷ us) (Bind Pi Plain [] a b)
   ending_binder : {d : ℕ} {ts : List Nested} {s : Written} → Reads names d Binder ts s → Reads names d Ending ts s
   apply_binder : {d : ℕ} {ts us : List Nested} {f a : Written}
@@ -85,10 +85,10 @@ pub data Reads (names : Names) : ℕ → Form → List Nested → Written → Ty
   hash_ending : {d : ℕ} (p : Place) {ts us : List Nested} {a b : Written}
       → Reads names d Spine ts a → Reads names (suc d) Ending us b
       → Reads names d Ending (ts ++ symbol d p Hash ∷ us) (Bind Sigma Plain [] a b)
-  tail_spine : {d : ℕ} {ts : List Nested} {s : Written} → Reads names d Spine ts s → Reads names d Tail ts s
-  hash_tail : {d : ℕ} (p : Place) {ts us : List Nested} {a b : Written}
-      → Reads names d Spine ts a → Reads names (suc d) Tail us b
-      → Reads names d Tail (ts ++ symbol d p Hash ∷ us) (Bind Sigma Plain [] a b)
+  sum_spine : {d : ℕ} {ts : List Nested} {s : Written} → Reads names d Spine ts s → Reads names d Sum ts s
+  hash_sum : {d : ℕ} (p : Place) {ts us : List Nested} {a b : Written}
+      → Reads names d Spine ts a → Reads names (suc d) Sum us b
+      → Reads names d Sum (ts ++ symbol d p Hash ∷ us) (Bind Sigma Plain [] a b)
   spine_post : {d : ℕ} {ts : List Nested} {s : Written} → Reads names d Post ts s → Reads names d Spine ts s
   apply : {d : ℕ} {ts us : List Nested} {f a : Written}
       → Reads names d Spine ts f → Reads names d Post us a → Reads names d Spine (ts ++ us) (Apply Plain f a)
@@ -236,7 +236,7 @@ abbrev pub IsContext : Deed → Type 0
 IsContext (Deed.Bindings bs) = Unit {0}
 IsContext _ = ⊥
 
--- the tokens end inside a binding: a context command begins with them, and a `;` behind them makes no command
+-- The tokens end inside a binding, or there are none yet: a context command begins with them, and a `;` behind them makes no command.
 pub record EndsInBinding (tokens : List Item) : Type 0 where
   pub names : Names
   pub more : List Item
@@ -246,7 +246,7 @@ pub record EndsInBinding (tokens : List Item) : Type 0 where
   pub inside : (ns : Names) (p : Place) (c : Order) → Parses ns (tokens ++ record { lexeme = OfSymbol Semicolon; place = p } ∷ []) c → ⊥
 
 -- Tokens behind which no reading exists are nested as in a context where they end inside a binding, and where only contexts
--- begin with them, as behind `[x=M:T]`; else as in a command that is none.
+-- begin with them, as behind `[x=M:T]`; else as in a command that is no context command.
 pub data Prevails (tokens : List Item) : Deed → Type 0 where
   in_binding : {deed : Deed} → IsContext deed → EndsInBinding tokens → Prevails tokens deed
   alone : {deed : Deed}

@@ -1,16 +1,13 @@
 -- The laws of the grammar: what makes "the" reading of tokens, and "the" nesting of a token.
-use Rattle.std.specs.Prelude.{◌≡◌, ◌⊎◌, ℕ, List, Some, map, slice_get}
+use Rattle.std.specs.Prelude.{◌≡◌, ◌⊎◌, ℕ, List, map}
+use Rattle.lego_base.specs.Names.{AreDistinct}
 use Rattle.lego_grammar.specs.Written.{Order}
 use Rattle.lego_grammar.specs.Grammar.{Names, Nested, Item, item, ReadsCommand, GoesOn, IsUnexpected, IsContext, IsTooDeep}
 
--- different numbers have different texts
-abbrev pub Differ : Names → Type 0
-Differ names = (i j : ℕ) (text : List ℕ) → slice_get names i ≡ Some text → slice_get names j ≡ Some text → i ≡ j
-
--- the same tokens are read as one command only
+-- the same tokens are read as one command only, where different numbers have different texts
 abbrev pub OneReading : Type 0
 OneReading =
-    (names : Names) (ts us : List Nested) (c c' : Order) → Differ names → ReadsCommand names ts c → ReadsCommand names us c'
+    (names : Names) (ts us : List Nested) (c c' : Order) → AreDistinct names → ReadsCommand names ts c → ReadsCommand names us c'
     → map item ts ≡ map item us → c ≡ c'
 
 -- each token of a command has one nesting, however its names are numbered

@@ -1,5 +1,6 @@
 -- What the parser answers.
 use Rattle.std.specs.Prelude.{◌≡◌, ℕ, ◌<◌, ◌≤◌, List, [], ◌∷◌, ◌++◌, map, length, slice_get, Some, ◌⊎◌, All, Contains}
+use Rattle.lego_base.specs.Names.{AreDistinct}
 use Rattle.lego_lexer.specs.Tokens.{Name}
 use Rattle.lego_lexer.specs.declared.token.Token.{Token}
 use Rattle.lego_lexer.specs.declared.token.TokenKind.TheVariants as Kind
@@ -19,15 +20,10 @@ pub record GrowsBy (tokens : List Item) (old new : Names) : Type 0 where
 abbrev pub EndWithSemicolon : List Token → Type 0
 EndWithSemicolon tokens = (front : List Token) × (t : Token) × (tokens ≡ front ++ t ∷ []) × (t.kind ≡ Kind.Symbol Semicolon)
 
--- the items differ from one another
-abbrev pub Differ : {X : Type 0} → List X → Type 0
-Differ [] = Unit {0}
-Differ (x ∷ xs) = All (λ y. x ≡ y → ⊥) xs × Differ xs
-
 -- the held names and those among the tokens are more than 1,048,576
 pub record AreTooMany (held : Names) (tokens : List Item) : Type 0 where
   pub texts : List (List ℕ)
-  pub distinct : Differ texts
+  pub distinct : AreDistinct texts
   pub from : All (λ text. Contains held text ⊎ Contains (map (λ t. t.lexeme) tokens) (Name text)) texts
   pub many : 1048576 < length texts
 

@@ -16,9 +16,6 @@ mod stack;
 mod surface;
 mod trees;
 
-ghost use Rattle.lego_grammar.specs.Grammar.{IsTooDeep};
-ghost use Rattle.lego_grammar.specs.Surface.{order_of};
-
 pub use command::{Act, Binding, BindingKind, Command};
 pub use fault::ParseFault;
 pub use laws::{

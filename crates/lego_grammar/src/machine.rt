@@ -112,11 +112,9 @@ pub(crate) enum Mode {
     Done(Act),
 }
 
-ghost use Rattle.lego_grammar.specs.Surface.{order_of};
-
 impl Frame {
     ghost use Rattle.std.specs.Prelude.{◌≡◌};
-    ghost use Rattle.lego_grammar.specs.Machine.{nests as nests_so, applies as applies_so, sums as sums_so, pending};
+    ghost use Rattle.lego_grammar.specs.Machine.{nests as nests_so, sums as sums_so, pending};
     ghost use Rattle.lego_grammar.specs.Frames.{frame_of};
 
     /// Whether what stands behind it is one level deeper.
@@ -124,13 +122,6 @@ impl Frame {
         ensures { result ≡ nests_so (frame_of self.now) }
     {
         !matches!(self, Frame::Apply { .. } | Frame::Whole(_))
-    }
-
-    /// Whether an argument ends it.
-    pub fn applies(&self) -> bool
-        ensures { result ≡ applies_so (frame_of self.now) }
-    {
-        matches!(self, Frame::Apply { .. })
     }
 
     /// Whether the last part of a sum ends it.

@@ -13,7 +13,7 @@ impl Stack {
     ghost use Rattle.lego_lexer.specs.declared.token.TokenKind.TheVariants.{Symbol as ASymbol};
     ghost use Rattle.lego_lexer.specs.declared.token.Symbol.TheVariants.{OpenParen};
     ghost use Rattle.lego_term.specs.declared.binder.Mark.TheVariants.{Plain, Implicit as ImplicitMark};
-    ghost use Rattle.lego_grammar.specs.Written.{Written, Apply as Applies};
+    ghost use Rattle.lego_grammar.specs.Written.{Apply as Applies};
     ghost use Rattle.lego_grammar.specs.Surface.{written, applied};
     ghost use Rattle.lego_grammar.specs.Machine.{InTerm, Want as WantMode, WantName as WantsName, ApplyTo, HashFrom, ArrowFrom, moves as goes, operand as operand_so, sums as sums_so, pending, settled, summed, closed, closes_top, keep as keeps, behind as behind_so, behind_paren as behind_paren_so, behind_name as behind_name_so, part as part_so, valued};
     ghost use Rattle.lego_grammar.specs.Frames.{frame_of, mode_of, post_of, site_of, arguments_of};
@@ -164,25 +164,14 @@ impl Stack {
         ensures takes { IfOk result (λ frame. Takes sums_so (stack self.old) frame (stack self.new)) }
         ensures building { self.new.building ≡ self.old.building }
     {
-        match self.pop() {
-            Some(
-                Frame::Apply {
-                    mark,
-                    function,
-                    arguments,
-                },
-            ) => Ok(Some(Frame::Apply {
-                mark,
-                function,
-                arguments,
-            })),
-            Some(Frame::Hash(domain)) => Ok(Some(Frame::Hash(domain))),
-            Some(frame) => {
-                self.push(frame)?;
-                Ok(None)
-            }
-            None => Ok(None),
+        let Some(frame) = self.pop() else {
+            return Ok(None);
+        };
+        if frame.sums() {
+            return Ok(Some(frame));
         }
+        self.push(frame)?;
+        Ok(None)
     }
 
     /// A spine ends the sum on top, if there is one.
@@ -213,40 +202,14 @@ impl Stack {
         ensures takes { IfOk result (λ frame. Takes pending (stack self.old) frame (stack self.new)) }
         ensures building { self.new.building ≡ self.old.building }
     {
-        match self.pop() {
-            Some(
-                Frame::Apply {
-                    mark,
-                    function,
-                    arguments,
-                },
-            ) => Ok(Some(Frame::Apply {
-                mark,
-                function,
-                arguments,
-            })),
-            Some(Frame::Hash(domain)) => Ok(Some(Frame::Hash(domain))),
-            Some(Frame::Arrow(domain)) => Ok(Some(Frame::Arrow(domain))),
-            Some(
-                Frame::Body {
-                    kind,
-                    mark,
-                    names,
-                    domain,
-                },
-            ) => Ok(Some(Frame::Body {
-                kind,
-                mark,
-                names,
-                domain,
-            })),
-            Some(Frame::Local(name, definition)) => Ok(Some(Frame::Local(name, definition))),
-            Some(frame) => {
-                self.push(frame)?;
-                Ok(None)
-            }
-            None => Ok(None),
+        let Some(frame) = self.pop() else {
+            return Ok(None);
+        };
+        if frame.is_pending() {
+            return Ok(Some(frame));
         }
+        self.push(frame)?;
+        Ok(None)
     }
 
     /// A term ends what awaits it on top, if anything does.

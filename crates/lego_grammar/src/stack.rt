@@ -19,7 +19,7 @@ pub(crate) struct Stack {
 }
 
 impl Stack {
-    ghost use Rattle.std.specs.Prelude.{[], ◌∷◌, IfOk, OnOk, MatchOption};
+    ghost use Rattle.std.specs.Prelude.{[], ◌∷◌, OnOk, MatchOption};
     ghost use Rattle.lego_grammar.specs.Machine.{state, level as level_in};
     ghost use Rattle.lego_grammar.specs.Frames.{frame_of, mode_of};
     ghost use Rattle.lego_grammar.specs.Stack.{stack};

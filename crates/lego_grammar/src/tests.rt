@@ -5,6 +5,7 @@ mod forms;
 mod many;
 mod refusals;
 mod render;
+mod runs;
 
 use super::*;
 use lego_base::{Names, Place};

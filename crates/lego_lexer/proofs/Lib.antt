@@ -9,7 +9,6 @@ pub mod LexLemmas
 pub mod UniqueGaps
 pub mod UniqueTokens
 pub mod UniqueCuts
-pub mod Scripts
 pub mod Ranges
 pub mod LastToken
 mod Sanity

@@ -1,12 +1,12 @@
 -- What is written for a command is its answer.
-use Rattle.std.proofs.Common.{◌≡◌, true, false, List, Option, Some, None, Result, Ok, Err, IfOk, IfErr, IfSome, IfNone, OnErr, inl, inr, sym, ◌∙◌, subst}
+use Rattle.std.proofs.Common.{◌≡◌, ℕ, ◌≤◌, length, true, false, List, Option, Some, None, Result, Ok, Err, IfOk, IfErr, IfSome, IfNone, OnErr, inl, inr, sym, ◌∙◌, subst}
 use Rattle.lego_base.specs.Names.{AreDistinct}
 use Rattle.lego_base.specs.declared.place.Place.{Place}
 use Rattle.lego_grammar.specs.Grammar.{Names}
 use Rattle.lego_grammar.specs.Written.{Order}
 use Rattle.lego_lexer.specs.Commands.{CommandText}
 use Rattle.lego_kernel.specs.declared.entry.Entry.{Entry as Item}
-use Rattle.lego_session.specs.Commands.{Grows, IsCommand, IsUnreadBy, Answers}
+use Rattle.lego_session.specs.Commands.{Grows, IsNumbering, IsCommand, IsUnreadBy, Answers}
 use Rattle.lego_session.specs.Names.{AreKnown}
 use Rattle.lego_session.specs.Reading.{is_built}
 use Rattle.lego_session.specs.Refusals.{IsRefusedBy}
@@ -17,6 +17,10 @@ use Rattle.lego_session.specs.declared.refusal.Cause.{Cause}
 use Rattle.lego_session.specs.declared.refusal.Refusal.{Refusal}
 use Rattle.lego_session.specs.declared.session.Answer.{Answer}
 use Rattle.lego_session.proofs.KnownLemmas.{known_more, answered_known}
+
+-- what the count of the names says of their numbering
+pub numbered : (names : Names) (count : ℕ) → count ≡ length names → count ≤ 1048576 → AreDistinct names → IsNumbering names
+numbered names count e le distinct = record { distinct = distinct; few = subst (λ n. n ≤ 1048576) e le }
 
 -- a step with its outcome written down
 pub step_written : (names : Names) (old new : List Item) (o : Order) (outcome : Result Answer Refusal) (written : Option Answered)
@@ -37,23 +41,23 @@ step_written names old new o (Err refusal) (Some a) ok (inr h) err w =
 
 -- bytes that are no command, with their refusal written down
 pub unread_written : (held names : Names) (es : List Item) (c : CommandText) (p : Place) (cause : Cause) (refusal : Refusal) (written : Option Answered)
-    → Grows c held names → AreDistinct names → IsUnreadBy held c p cause → IsRefusedBy names es p cause refusal.place refusal.cause refusal.text
+    → Grows c held names → IsNumbering names → IsUnreadBy held names c p cause → IsRefusedBy names es p cause refusal.place refusal.cause refusal.text
     → IsWritten (Err refusal) written
     → IfSome written (λ a. Answers held es c (record { refused = a.refused; text = a.text }) names es)
-unread_written held names es c p cause refusal None grows differ unread is w = tt
-unread_written held names es c p cause refusal (Some a) grows differ unread (inl memory) w = absurd (w.0 memory.0)
-unread_written held names es c p cause refusal (Some a) grows differ (inl memory) (inr is) w = absurd (is.0 memory)
-unread_written held names es c p cause refusal (Some a) grows differ (inr h) (inr is) w =
+unread_written held names es c p cause refusal None grows numbering unread is w = tt
+unread_written held names es c p cause refusal (Some a) grows numbering unread (inl memory) w = absurd (w.0 memory.0)
+unread_written held names es c p cause refusal (Some a) grows numbering (inl memory) (inr is) w = absurd (is.0 memory)
+unread_written held names es c p cause refusal (Some a) grows numbering (inr h) (inr is) w =
     subst (λ r. Answers held es c (record { refused = r; text = a.text }) names es) (sym w.1)
-    (subst (λ t. Answers held es c (record { refused = true; text = t }) names es) (sym (w.2 ∙ is.3)) (Answers.unread grows differ h))
+    (subst (λ t. Answers held es c (record { refused = true; text = t }) names es) (sym (w.2 ∙ is.3)) (Answers.unread grows numbering h))
 
 -- a command that ran, written down
 pub command_written : (held names : Names) (old new : List Item) (c : CommandText) (o : Order) (written : Option Answered)
-    → Grows c held names → AreDistinct names → IsCommand names c o → is_built o.deed ≡ true
+    → Grows c held names → IsNumbering names → IsCommand names c o → is_built o.deed ≡ true
     → IfSome written (λ a. Step names old o (record { refused = a.refused; text = a.text }) new)
     → IfSome written (λ a. Answers held old c (record { refused = a.refused; text = a.text }) names new)
-command_written held names old new c o None grows differ command built step = tt
-command_written held names old new c o (Some a) grows differ command built step = Answers.step grows differ command built step
+command_written held names old new c o None grows numbering command built step = tt
+command_written held names old new c o (Some a) grows numbering command built step = Answers.step grows numbering command built step
 
 -- the names of the entries stay held, whatever is written
 pub written_known : (held names : Names) (old new : List Item) (c : CommandText) (written : Option Answered)

@@ -108,9 +108,9 @@ its_token held bytes tokens (Fault.TooDeep p) h = tt
 its_token held bytes tokens Fault.NamesFull h = tt
 its_token held bytes tokens Fault.Memory h = tt
 
-module _ {held : Names} {c : CommandText} where
-  moved : {p q : Place} {k l : Cause} → p ≡ q → k ≡ l → IsUnread held c q l → IsUnread held c p k
-  moved {p} {q} {k} {l} e f h = subst (λ x. IsUnread held c x k) (sym e) (subst (λ x. IsUnread held c q x) (sym f) h)
+module _ {held left : Names} {c : CommandText} where
+  moved : {p q : Place} {k l : Cause} → p ≡ q → k ≡ l → IsUnread held left c q l → IsUnread held left c p k
+  moved {p} {q} {k} {l} e f h = subst (λ x. IsUnread held left c x k) (sym e) (subst (λ x. IsUnread held left c q x) (sym f) h)
 
 -- the command that the parser answers
 pub is_command : (names : Names) (place : Place) (bytes : List ℕ) (tokens : List Token) (o : Order)
@@ -121,12 +121,12 @@ is_command names place bytes tokens o lexed h =
     record { tokens = map (placed bytes) tokens; lexed = lexed; parsed = parsed.parses; shallow = parsed.shallow }
 
 -- why the tokens are no command, as it is answered
-pub not_parsed_unread : (held : Names) (place : Place) (bytes : List ℕ) (tokens : List Token) (fault : ParseFault) (p : Place) (cause : Cause)
+pub not_parsed_unread : (held left : Names) (place : Place) (bytes : List ℕ) (tokens : List Token) (fault : ParseFault) (p : Place) (cause : Cause)
     → HasTokens (record { place = place; bytes = bytes }) (map (placed bytes) tokens) → IsNoCommand held (map (item_of bytes) tokens) fault
-    → IsNotParsed place bytes tokens fault p cause → IsUnreadBy held (record { place = place; bytes = bytes }) p cause
+    → IsNotParsed place bytes tokens fault p cause → IsUnreadBy held left (record { place = place; bytes = bytes }) p cause
 unfolding is_command
-not_parsed_unread held place bytes tokens (Fault.Unexpected q) p cause lexed h (t, stands, inl memory) = inl memory
-not_parsed_unread held place bytes tokens (Fault.Unexpected q) p cause lexed h (t, stands, inr is) =
+not_parsed_unread held left place bytes tokens (Fault.Unexpected q) p cause lexed h (t, stands, inl memory) = inl memory
+not_parsed_unread held left place bytes tokens (Fault.Unexpected q) p cause lexed h (t, stands, inr is) =
     let items = sym (same_items bytes tokens) in
     let x = mapped_at (item_of bytes) tokens h.0 h.1 h.2 in
     let at_q : x.0.place ≡ q = ap (λ (i : Item). i.place) x.2 ∙ h.3 in
@@ -138,16 +138,16 @@ not_parsed_unread held place bytes tokens (Fault.Unexpected q) p cause lexed h (
     let unexpected = subst (λ xs. IsUnexpected xs h.0) items h.4 in
     let shallow = subst (λ (xs : List Item). (i : ℕ) → IsTooDeep xs i → ⊥) items h.5 in
     inr (moved is.0 is.1 (IsUnread.unexpected h.0 lexed unexpected there shallow))
-not_parsed_unread held place bytes tokens (Fault.TooDeep q) p cause lexed h k =
+not_parsed_unread held left place bytes tokens (Fault.TooDeep q) p cause lexed h k =
     let x = mapped_at (item_of bytes) tokens h.0 h.1 h.2 in
     let at_q : x.0.place ≡ q = ap (λ (i : Item). i.place) x.2 ∙ h.3 in
     let deep = subst (λ xs. IsTooDeep xs h.0) (sym (same_items bytes tokens)) h.4 in
     inr (moved (k.0 ∙ sym at_q) k.1 (IsUnread.too_deep h.0 lexed deep (placed_at bytes tokens h.0 x.0 x.1)))
-not_parsed_unread held place bytes tokens Fault.NamesFull p cause lexed h k =
+not_parsed_unread held left place bytes tokens Fault.NamesFull p cause lexed h k =
     let command = is_command h.0 place bytes tokens h.1 lexed h.2 in
     let many = subst (AreTooMany held) (sym (same_items bytes tokens)) h.3 in
     inr (moved k.0 k.1 (IsUnread.names_full command many))
-not_parsed_unread held place bytes tokens Fault.Memory p cause lexed h k = inl k
+not_parsed_unread held left place bytes tokens Fault.Memory p cause lexed h k = inl k
 
 -- a command has a first token
 pub first_token : (names : Names) (bytes : List ℕ) (tokens : List Token) (o : Order) → ParsesTo names (map (item_of bytes) tokens) o
@@ -159,18 +159,18 @@ first_token names bytes [] o h e = empty h.parses.reads h.parses.same
 first_token names bytes (t ∷ ts) o h e = cc
 
 -- a command whose form is not built is refused at its first token
-pub unbuilt_unread : (held names : Names) (place : Place) (bytes : List ℕ) (tokens : List Token) (o : Order) (t : Token) (p : Place) (cause : Cause)
-    → HasTokens (record { place = place; bytes = bytes }) (map (placed bytes) tokens) → ParsesTo names (map (item_of bytes) tokens) o
+pub unbuilt_unread : (held left : Names) (place : Place) (bytes : List ℕ) (tokens : List Token) (o : Order) (t : Token) (p : Place) (cause : Cause)
+    → HasTokens (record { place = place; bytes = bytes }) (map (placed bytes) tokens) → ParsesTo left (map (item_of bytes) tokens) o
     → is_built o.deed ≡ false → slice_get tokens 0 ≡ Some t → IsUnexpectedToken bytes t p cause
-    → IsUnreadBy held (record { place = place; bytes = bytes }) p cause
+    → IsUnreadBy held left (record { place = place; bytes = bytes }) p cause
 unfolding is_command
-unbuilt_unread held names place bytes tokens o t p cause lexed h built there (inl memory) = inl memory
-unbuilt_unread held names place bytes tokens o t p cause lexed h built there (inr is) =
-    inr (moved is.0 is.1 (IsUnread.unbuilt (is_command names place bytes tokens o lexed h) built (placed_at bytes tokens 0 t there)))
+unbuilt_unread held left place bytes tokens o t p cause lexed h built there (inl memory) = inl memory
+unbuilt_unread held left place bytes tokens o t p cause lexed h built there (inr is) =
+    inr (moved is.0 is.1 (IsUnread.unbuilt (is_command left place bytes tokens o lexed h) built (placed_at bytes tokens 0 t there)))
 
 -- why the bytes have no tokens
-pub not_lexed_unread : (held : Names) (place : Place) (bytes : List ℕ) (fault : LexFault) (p : Place) (cause : Cause)
+pub not_lexed_unread : (held left : Names) (place : Place) (bytes : List ℕ) (fault : LexFault) (p : Place) (cause : Cause)
     → length bytes ≤ 65536 → (fault ≡ Lex.Memory) ⊎ Refused place bytes fault → p ≡ lex_place fault place → cause ≡ lex_cause fault
-    → IsUnreadBy held (record { place = place; bytes = bytes }) p cause
-not_lexed_unread held place bytes fault p cause short (inl memory) at is = inl (is ∙ ap lex_cause memory)
-not_lexed_unread held place bytes fault p cause short (inr refused) at is = inr (moved at is (IsUnread.lex short refused))
+    → IsUnreadBy held left (record { place = place; bytes = bytes }) p cause
+not_lexed_unread held left place bytes fault p cause short (inl memory) at is = inl (is ∙ ap lex_cause memory)
+not_lexed_unread held left place bytes fault p cause short (inr refused) at is = inr (moved at is (IsUnread.lex short refused))

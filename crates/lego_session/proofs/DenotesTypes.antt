@@ -98,7 +98,7 @@ module _ (names : Names) (before : List Item) (d : ℕ) (at : Point) where
     written = r.written;
     lexed = r.lexed;
     same = r.same;
-    parsed = Parse.term_tail (Parse.tail_spine (Parse.spine_post (Parse.post_atom r.parsed)));
+    parsed = Parse.term_sum (Parse.sum_spine (Parse.spine_post (Parse.post_atom r.parsed)));
     type = r.type;
   }
 
@@ -114,7 +114,7 @@ module _ (names : Names) (before : List Item) (d : ℕ) (at : Point) where
         (reads_join A.lexed (lex_one (45 ∷ 62 ∷ []) (b ++ rest) (begins_there 45 (62 ∷ (b ++ rest)) refl refl) (arrow_longest (b ++ rest)) B.lexed));
     same = same_join A.nested (symbol d A.end.place Arrow ∷ B.nested) A.tokens (here A.end (45 ∷ 62 ∷ []) (OfSymbol Arrow) ∷ B.tokens) A.same
         (ap (λ (xs : List Token). record { lexeme = OfSymbol Arrow; place = A.end.place } ∷ xs) B.same);
-    parsed = Parse.arrow A.end.place (Parse.tail_spine (Parse.spine_post (Parse.post_atom A.parsed))) B.parsed;
+    parsed = Parse.arrow A.end.place (Parse.sum_spine (Parse.spine_post (Parse.post_atom A.parsed))) B.parsed;
     type = ReadsType.arrow A.type B.type;
   }
 

@@ -36,6 +36,11 @@ pub record Grows (c : CommandText) (old new : Names) : Type 0 where
   pub same : new ≡ old ++ more
   pub from : All (IsNameOf c) more
 
+-- each text has one number, and there are no more than the limit
+pub record IsNumbering (names : Names) : Type 0 where
+  pub distinct : AreDistinct names
+  pub few : length names ≤ 1048576
+
 -- the command that the bytes are, within the limits
 pub record IsCommand (names : Names) (c : CommandText) (o : Order) : Type 0 where
   pub tokens : List Placed
@@ -62,29 +67,30 @@ lex_cause Lex.Memory = Memory
 abbrev pub token_text : CommandText → Placed → List ℕ
 token_text c t = slice_range c.bytes t.from t.to
 
--- Why bytes are no command, or none of a form that is built, in the order in which they are looked at.
-pub data IsUnread (held : Names) (c : CommandText) : Place → Cause → Type 0 where
-  long : 65536 < length c.bytes → IsUnread held c c.place (LongCommand (length c.bytes))
-  lex : {fault : LexFault} → length c.bytes ≤ 65536 → Refused c.place c.bytes fault → IsUnread held c (lex_place fault c.place) (lex_cause fault)
+-- Why bytes are no command, or none of a form that is built, in the order in which they are looked at. The numbering that
+-- was held goes on to the one that is left.
+pub data IsUnread (held left : Names) (c : CommandText) : Place → Cause → Type 0 where
+  long : 65536 < length c.bytes → IsUnread held left c c.place (LongCommand (length c.bytes))
+  lex : {fault : LexFault} → length c.bytes ≤ 65536 → Refused c.place c.bytes fault → IsUnread held left c (lex_place fault c.place) (lex_cause fault)
   unexpected : {tokens : List Placed} {t : Placed} (n : ℕ) → HasTokens c tokens → IsUnexpected (grammar_tokens tokens) n
       → slice_get tokens n ≡ Some t → ((i : ℕ) → IsTooDeep (grammar_tokens tokens) i → ⊥)
-      → IsUnread held c t.place (Unexpected (token_text c t))
+      → IsUnread held left c t.place (Unexpected (token_text c t))
   too_deep : {tokens : List Placed} {t : Placed} (n : ℕ) → HasTokens c tokens → IsTooDeep (grammar_tokens tokens) n
-      → slice_get tokens n ≡ Some t → IsUnread held c t.place TooDeep
+      → slice_get tokens n ≡ Some t → IsUnread held left c t.place TooDeep
   names_full : {names : Names} {o : Order} → (command : IsCommand names c o) → AreTooMany held (grammar_tokens command.tokens)
-      → IsUnread held c c.place NamesFull
-  unbuilt : {names : Names} {o : Order} {t : Placed} → (command : IsCommand names c o) → is_built o.deed ≡ false
-      → slice_get command.tokens 0 ≡ Some t → IsUnread held c t.place (Unexpected (token_text c t))
+      → IsUnread held left c c.place NamesFull
+  unbuilt : {o : Order} {t : Placed} → (command : IsCommand left c o) → is_built o.deed ≡ false
+      → slice_get command.tokens 0 ≡ Some t → IsUnread held left c t.place (Unexpected (token_text c t))
 
 -- why bytes are no command; want of memory is free
-abbrev pub IsUnreadBy : Names → CommandText → Place → Cause → Type 0
-IsUnreadBy held c p cause = (cause ≡ Memory) ⊎ IsUnread held c p cause
+abbrev pub IsUnreadBy : (held left : Names) → CommandText → Place → Cause → Type 0
+IsUnreadBy held left c p cause = (cause ≡ Memory) ⊎ IsUnread held left c p cause
 
--- The answer to one command's bytes. The numbering grows by names among its tokens, and each text has one number.
+-- The answer to one command's bytes. The numbering grows by names among its tokens, to one within the limit.
 pub data Answers (held : Names) (old : List Item) (c : CommandText) : Answer → Names → List Item → Type 0 where
   step : {names : Names} {o : Order} {answer : Answer} {new : List Item}
-      → Grows c held names → AreDistinct names → IsCommand names c o → is_built o.deed ≡ true → Step names old o answer new
+      → Grows c held names → IsNumbering names → IsCommand names c o → is_built o.deed ≡ true → Step names old o answer new
       → Answers held old c answer names new
   unread : {names : Names} {p : Place} {cause : Cause}
-      → Grows c held names → AreDistinct names → IsUnread held c p cause
+      → Grows c held names → IsNumbering names → IsUnread held names c p cause
       → Answers held old c (record { refused = true; text = refusal_text names old p cause }) names old

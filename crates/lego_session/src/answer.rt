@@ -46,7 +46,7 @@ pub(crate) fn answer(
     ensures none { IfNone result (session.new ≡ session.old) }
 {
     let outcome = read_command(alloc, names, place, bytes);
-    // So each text has one number.
+    // So each text has one number, and there are no more than the limit.
     let _count = names.len();
     match outcome {
         Ok(command) => run_command(names, session, command),

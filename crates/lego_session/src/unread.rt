@@ -39,7 +39,7 @@ pub(crate) fn read_command(
     requires text { IsCommandText bytes.now }
     ensures command { IfOk result (λ command. IsCommand names.new (record { place = place; bytes = bytes.now }) (order_of command)) }
     ensures built { IfOk result (λ command. is_built (order_of command).deed ≡ true) }
-    ensures unread { IfErr result (λ unread. IsUnreadBy names.old (record { place = place; bytes = bytes.now }) unread.place unread.cause) }
+    ensures unread { IfErr result (λ unread. IsUnreadBy names.old names.new (record { place = place; bytes = bytes.now }) unread.place unread.cause) }
     ensures grown { Grows (record { place = place; bytes = bytes.now }) names.old names.new }
 {
     if bytes.len() > MAX_COMMAND {
@@ -97,7 +97,7 @@ fn parse_command(
     requires text { IsCommandText bytes.now }
     ensures command { IfOk result (λ command. IsCommand names.new (record { place = place; bytes = bytes.now }) (order_of command)) }
     ensures built { IfOk result (λ command. is_built (order_of command).deed ≡ true) }
-    ensures unread { IfErr result (λ unread. IsUnreadBy names.old (record { place = place; bytes = bytes.now }) unread.place unread.cause) }
+    ensures unread { IfErr result (λ unread. IsUnreadBy names.old names.new (record { place = place; bytes = bytes.now }) unread.place unread.cause) }
     ensures grown { Grows (record { place = place; bytes = bytes.now }) names.old names.new }
 {
     let command = match parse(alloc, tokens, bytes, names) {

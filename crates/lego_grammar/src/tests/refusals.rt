@@ -22,13 +22,13 @@ fn fault(alloc: Global, text: &[u8]) -> Option<ParseFault>
     }
 }
 
-fn unexpected(column: u32) -> Option<ParseFault> {
+pub fn unexpected(column: u32) -> Option<ParseFault> {
     Some(ParseFault::Unexpected {
         place: Place { line: 1, column },
     })
 }
 
-fn too_deep(column: u32) -> Option<ParseFault> {
+pub fn too_deep(column: u32) -> Option<ParseFault> {
     Some(ParseFault::TooDeep {
         place: Place { line: 1, column },
     })
@@ -108,7 +108,7 @@ fn tokens_are_refused_at_the_first_without_a_reading(rt: HostRuntime) -> Result<
 }
 
 /// A piece so many times, then what stands in the middle, another piece so many times, and an end.
-fn nested(
+pub fn nested(
     alloc: Global,
     open: &[u8],
     count: usize,
@@ -128,7 +128,7 @@ fn nested(
 }
 
 /// The answer to a nested text; nothing where memory ran out or the text is long.
-fn nested_fault(
+pub fn nested_fault(
     alloc: Global,
     open: &[u8],
     count: usize,

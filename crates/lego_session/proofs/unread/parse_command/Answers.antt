@@ -14,7 +14,7 @@ not_parsed-requires-clause-token c = its_token c.args.names.now c.args.bytes.now
 
 pub returns-in-Err-clause-unread : goal.returns-in-Err-clause-unread
 returns-in-Err-clause-unread c =
-    not_parsed_unread c.args.names.now c.args.place c.args.bytes.now c.args.tokens.now c.in-Err.fault _ _ c.requires.lexed c.in-Err.ensures.cause c.not_parsed.ensures
+    not_parsed_unread c.args.names.now c.parse.new.names c.args.place c.args.bytes.now c.args.tokens.now c.in-Err.fault _ _ c.requires.lexed c.in-Err.ensures.cause c.not_parsed.ensures
 
 pub returns-then-is_built-clause-command : goal.returns-then-is_built-clause-command
 returns-then-is_built-clause-command c =

@@ -8,7 +8,7 @@ returns-then-bytes-gt-MAX_COMMAND-clause-unread c = inr (IsUnread.long c.if-byte
 
 pub returns-in-Err-clause-unread : goal.returns-in-Err-clause-unread
 returns-in-Err-clause-unread c =
-    not_lexed_unread c.args.names.now c.args.place c.args.bytes.now c.in-Err.fault _ _ (let g = c.if-bytes-gt-MAX_COMMAND.false in omega (arith, g))
+    not_lexed_unread c.args.names.now c.args.names.now c.args.place c.args.bytes.now c.in-Err.fault _ _ (let g = c.if-bytes-gt-MAX_COMMAND.false in omega (arith, g))
     c.in-Err.ensures.refused c.not_lexed.ensures.place c.not_lexed.ensures.cause
 
 pub returns-then-bytes-gt-MAX_COMMAND-clause-grown : goal.returns-then-bytes-gt-MAX_COMMAND-clause-grown
