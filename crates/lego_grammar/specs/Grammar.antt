@@ -236,7 +236,8 @@ abbrev pub IsContext : Deed → Type 0
 IsContext (Deed.Bindings bs) = Unit {0}
 IsContext _ = ⊥
 
--- The tokens end inside a binding, or there are none yet: a context command begins with them, and a `;` behind them makes no command.
+-- A context command begins with the tokens, and a `;` behind them makes no command: they end inside a binding, or there are none
+-- yet, or they are a whole command.
 pub record EndsInBinding (tokens : List Item) : Type 0 where
   pub names : Names
   pub more : List Item
