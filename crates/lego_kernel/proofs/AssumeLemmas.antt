@@ -1,30 +1,31 @@
 -- An assumption keeps a context valid, and what is refused is no type.
-use Rattle.std.proofs.Common.{◌≡◌, ℕ, zero, suc, ◌+◌, ◌<◌, ◌≤◌, nat_lt, min, Bool, true, false, List, [], ◌∷◌, ◌++◌, map, take, length, slice_get, Option, Some, None, refl, sym, ap, ◌∙◌, subst, zero-add, arith, IsTrue}
+use Rattle.std.proofs.Common.{◌≡◌, ℕ, zero, suc, ◌+◌, nat_lt, Bool, true, false, List, [], ◌∷◌, ◌++◌, take, length, slice_get, Some, None, refl, sym, ap, subst, zero-add, arith}
 use Rattle.std.proofs.lemmas.Bool.{ltb-true, ltb-false}
 use Rattle.std.proofs.lemmas.List.{take_all, take-append-le, length-append, length-take, take-take}
 use mathlib.Core.Bool.{true≢false}
-use Rattle.lego_term.specs.Levels.{Assignment, SatisfiesAll, fixed_level}
+use Rattle.lego_term.specs.Levels.{Assignment}
 use Rattle.lego_term.specs.Trees.{Core, Term, Const, Prop, Univ, Pi, at}
 use Rattle.lego_term.specs.Trees as tree
 use Rattle.lego_term.specs.Below.{prop}
 use Rattle.lego_term.specs.Sequences.{head_step}
 use Rattle.lego_term.specs.declared.binder.Mark.{Mark}
-use Rattle.lego_laws.specs.Entries.{Entry, entry_at, entries_at, entry_of, constant_of, core_bodies, kept, IsHeld}
-use Rattle.lego_laws.specs.Judgement.{Valid, Has, IsType, empty, grow_constant, grow_variable, ax, universe, constant, pi_type, cumulative}
+use Rattle.lego_laws.specs.Entries.{entry_at, entries_at, entry_of, constant_of, core_bodies, IsHeld}
+use Rattle.lego_laws.specs.Judgement.{Valid, Has, empty, grow_constant, grow_variable, ax, universe, constant, pi_type, cumulative}
 use Rattle.lego_laws.specs.Valid.{AreValid, AlwaysValid}
 use Rattle.lego_laws.specs.RuleTypes.{RuleType, HasRuleType}
 use Rattle.lego_laws.specs.RuleTypes as rule_types
 use Rattle.lego_laws.specs.Places.{Fulfils, AType}
 use Rattle.lego_kernel.specs.Simple.{IsSimple, IsSimpleOver, IsSimpleType, is_prop}
 use Rattle.lego_kernel.specs.Assuming.{IsTypeAlways, IsNoType, IsAdmitted}
-use Rattle.lego_kernel.specs.Contexts.{AreSimple, AreFrontsValid, IsContext}
+use Rattle.lego_kernel.specs.Contexts.{IsContext}
 use Rattle.lego_kernel.specs.Entries.{laws_entry, laws_entries, assumption}
 use Rattle.lego_kernel.specs.declared.entry.Entry.{Entry as Item}
-use Rattle.lego_kernel.proofs.SimpleLemmas.{simple-push, simple-take, simple_at, no_level, no_levels}
+use Rattle.lego_kernel.proofs.SimpleLemmas.{simple-push, simple-take, simple_at, no_levels}
+use Rattle.lego_kernel.proofs.NameLemmas.{distinct-push, distinct-take}
 use Rattle.lego_kernel.proofs.EntryLemmas.{entries_at-push, satisfied, found, found_in_order, none_behind, no_body}
 
 pub empty_context : IsContext []
-empty_context = record { simple = tt; valid = λ n v s. at_take n v; few = omega arith }
+empty_context = record { simple = tt; valid = λ n v s. at_take n v; distinct = λ i j name here there. let g = here.1 in cc; few = omega arith }
   where
     at_take : (n : ℕ) (v : Assignment) → AreValid (entries_at v (laws_entries (take n [])))
     at_take zero v = record { valid = empty; bodies = tt }
@@ -39,6 +40,7 @@ pub front_is_context : (n : ℕ) (es : List Item) → IsContext es → IsContext
 front_is_context n es c = record {
   simple = simple-take 0 n es c.simple;
   valid = λ m. front m (nat_lt n m) refl;
+  distinct = distinct-take n es c.distinct;
   few = omega (arith, length-take n es, c.few);
 }
   where
@@ -110,11 +112,12 @@ other_is_no_type es k e c there is = no_type_at es k (0 + k) e e.ty refl c there
 
 -- the context with the assumption
 pub assume_valid : (es : List Item) (name : ℕ) (mark : Mark) (ty : Core)
-    → IsContext es → IsSimpleOver es ty → IsTypeAlways (laws_entries es) ty → length es < 65536 → IsContext (es ++ assumption es name mark ty ∷ [])
-assume_valid es name mark ty c simple is_type room = record {
+    → IsContext es → IsSimpleOver es ty → IsAdmitted es name ty → IsContext (es ++ assumption es name mark ty ∷ [])
+assume_valid es name mark ty c simple admitted = record {
   simple = simple-push 0 es new c.simple (omega arith) (subst (λ m. IsSimple m ty) (omega arith) simple);
   valid = λ n. front n (nat_lt (length es) n) refl;
-  few = omega (arith, length-append es (new ∷ []));
+  distinct = distinct-push es new name c.distinct refl admitted.new;
+  few = omega (arith, admitted.room, length-append es (new ∷ []));
 }
   where
     new : Item
@@ -123,7 +126,7 @@ assume_valid es name mark ty c simple is_type room = record {
     all : AlwaysValid (laws_entries (es ++ new ∷ []))
     all v s =
         let before = whole_valid es c v (satisfied v es) in
-        let typed = is_type v (satisfied v es) in
+        let typed = admitted.is_type v (satisfied v es) in
         subst AreValid (sym (entries_at-push v es new)) (record {
           valid = grow_constant typed.1 (none_behind v 0 (length es) es c.simple (omega arith));
           bodies = (tt, before.bodies);

@@ -1,10 +1,10 @@
 -- Entries by their numbers, in the order of a context and as the rules see them.
-use Rattle.std.proofs.Common.{◌≡◌, ℕ, suc, zero, ◌+◌, ◌<◌, ◌≤◌, nat_eq, Bool, true, false, if◌then◌else◌, List, [], ◌∷◌, ◌++◌, map, reverse, length, slice_get, Option, Some, None, refl, sym, ap, ◌∙◌, subst, add-zero, arith}
+use Rattle.std.proofs.Common.{◌≡◌, ℕ, suc, zero, ◌+◌, ◌<◌, ◌≤◌, nat_eq, Bool, true, false, List, [], ◌∷◌, ◌++◌, map, reverse, length, slice_get, Some, None, refl, ap, ◌∙◌, subst, add-zero, arith}
 use Rattle.std.proofs.lemmas.List.{reverse-append, map-append}
 use mathlib.Core.List.{reverse-cons}
 use Rattle.std.proofs.lemmas.Bool.Decides.{nat_tests}
 use Rattle.lego_term.specs.Levels.{Assignment, SatisfiesAll}
-use Rattle.lego_laws.specs.Entries.{Entry, Constant, entry_at, entries_at, entry_of, constant_of, core_bodies, kept}
+use Rattle.lego_laws.specs.Entries.{Constant, entry_at, entries_at, entry_of, constant_of, core_bodies, kept}
 use Rattle.lego_kernel.specs.Entries.{laws_entry, laws_entries}
 use Rattle.lego_kernel.specs.Contexts.{AreSimple}
 use Rattle.lego_kernel.specs.declared.entry.Entry.{Entry as Item}
@@ -12,7 +12,7 @@ use Rattle.lego_kernel.specs.declared.entry.Entry.{Entry as Item}
 abbrev pub at_entry : Assignment → Item → Constant
 at_entry v e = entry_at v (laws_entry e)
 
-eq_self : (n : ℕ) → nat_eq n n ≡ true
+pub eq_self : (n : ℕ) → nat_eq n n ≡ true
 eq_self n = grind (arith, nat_tests)
 
 eq_apart : (m n : ℕ) → m < n → nat_eq n m ≡ false

@@ -1,5 +1,5 @@
 -- A fault of a part of a product is a fault of the product.
-use Rattle.std.proofs.Common.{◌≡◌, List, sym, subst, Result, Ok, Err, OnOk}
+use Rattle.std.proofs.Common.{List, sym, subst, Result, Ok, Err, OnOk}
 use Rattle.lego_term.specs.Trees.{Core, Pi}
 use Rattle.lego_term.specs.declared.binder.Binder.{Binder}
 use Rattle.lego_term.specs.declared.seen.Seen.{Seen}

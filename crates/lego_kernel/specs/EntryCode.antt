@@ -1,7 +1,7 @@
 -- A code for entries, by which a proof tells them apart.
-use Rattle.std.specs.Prelude.{ℕ, refl, Option, Some, None}
+use Rattle.std.specs.Prelude.{ℕ, refl, None}
 use Rattle.std.specs.Coded.{Coded, code_by, coded×, coded_ℕ}
-use Rattle.lego_term.specs.Trees.{Core, Var, Pi, Prop}
+use Rattle.lego_term.specs.Trees.{Core, Pi, Prop}
 use Rattle.lego_term.specs.TreeCode.{tree_code}
 use Rattle.lego_term.specs.declared.binder.Binder.{Binder}
 use Rattle.lego_kernel.specs.declared.entry.Entry.{Entry as Item}

@@ -16,7 +16,7 @@ use std::alloc::Global;
 use std::marker::Model;
 
 /// The most entries of a context.
-pub const MAX_ENTRIES: usize = 65_536;
+const MAX_ENTRIES: usize = 65_536;
 
 /// A list of entries that is valid by the rules, the oldest first, under every assignment of
 /// its level variables that satisfies its constraints. So is each front of it. Names differ,

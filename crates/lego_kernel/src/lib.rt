@@ -1,5 +1,6 @@
 //! Contexts of the Extended Calculus of Constructions: lists of entries that are valid by
-//! the rules. So far an entry is an assumption whose type is `Prop` or a name.
+//! the rules. So far an entry is an assumption whose type is made of `Prop`, names
+//! and products of these.
 #![tactic(auto)]
 
 mod context;
@@ -8,6 +9,6 @@ mod fault;
 #[cfg(test)]
 mod tests;
 
-pub use context::{Context, MAX_ENTRIES};
+pub use context::Context;
 pub use entry::{At, Entry};
 pub use fault::{Counted, TypeFault};

@@ -9,7 +9,7 @@ use Rattle.lego_kernel.specs.declared.entry.Entry.{Entry as Item}
 use Rattle.lego_session.specs.Commands.{Grows, IsNumbering, IsCommand, IsUnreadBy, Answers}
 use Rattle.lego_session.specs.Names.{AreKnown}
 use Rattle.lego_session.specs.Reading.{is_built}
-use Rattle.lego_session.specs.Refusals.{IsRefusedBy}
+use Rattle.lego_session.specs.Refusals.{IsRefusalOf}
 use Rattle.lego_session.specs.Steps.{Step, IsRefusal}
 use Rattle.lego_session.specs.Unread.{IsWritten}
 use Rattle.lego_session.specs.declared.answer.Answered.{Answered}
@@ -41,7 +41,7 @@ step_written names old new o (Err refusal) (Some a) ok (inr h) err w =
 
 -- bytes that are no command, with their refusal written down
 pub unread_written : (held names : Names) (es : List Item) (c : CommandText) (p : Place) (cause : Cause) (refusal : Refusal) (written : Option Answered)
-    → Grows c held names → IsNumbering names → IsUnreadBy held names c p cause → IsRefusedBy names es p cause refusal.place refusal.cause refusal.text
+    → Grows c held names → IsNumbering names → IsUnreadBy held names c p cause → IsRefusalOf names es p cause refusal.place refusal.cause refusal.text
     → IsWritten (Err refusal) written
     → IfSome written (λ a. Answers held es c (record { refused = a.refused; text = a.text }) names es)
 unread_written held names es c p cause refusal None grows numbering unread is w = tt

@@ -1,5 +1,5 @@
 -- Bindings made one after the other, and why one is refused.
-use Rattle.std.proofs.Common.{◌≡◌, ℕ, zero, suc, ◌+◌, ◌<◌, true, List, [], ◌∷◌, ◌++◌, map, take, drop, length, get_or, slice_get, Some, refl, sym, ap, ◌∙◌, subst, inl, inr, arith}
+use Rattle.std.proofs.Common.{◌≡◌, ℕ, zero, suc, ◌+◌, ◌<◌, true, false, List, [], ◌∷◌, ◌++◌, map, take, drop, length, get_or, slice_get, Some, refl, sym, ap, ◌∙◌, subst, inl, inr, arith}
 use mathlib.Core.Bool.{true≢false}
 use Rattle.lego_base.specs.declared.place.Place.{Place}
 use Rattle.lego_term.specs.Trees.{Core}
@@ -18,7 +18,7 @@ use Rattle.lego_kernel.specs.declared.fault.Counted.TheVariants.{Entries}
 use Rattle.lego_kernel.specs.declared.fault.TypeFault.{TypeFault}
 use Rattle.lego_kernel.specs.declared.fault.TypeFault.TheVariants as kernel
 use Rattle.lego_kernel.proofs.AssumeLemmas.{simple_is_type}
-use Rattle.lego_session.specs.Binding.{IsFirstUsed, Assumes, AssumeFails, IsFront, IsReadRefusal, cause_of, BindFails, BindAllFails}
+use Rattle.lego_session.specs.Binding.{IsFirstUsed, Assumes, AssumeFails, IsFront, IsReadRefusal, IsCauseOf, BindFails, BindAllFails}
 use Rattle.lego_session.specs.Reading.{is_simple, is_simple_assumption, IsNotRead}
 use Rattle.lego_session.specs.Steps.{AreNew, IsRead, Binds, BindsAll, IsBindingRefused, AreRefused, HasPlaces}
 use Rattle.lego_session.specs.Steps as steps
@@ -50,7 +50,7 @@ module _ (es : List Item) (b : Bound) where
 
   pub not_read_fails : (w : Written) (fault : ReadFault) (p : Place) (c : Cause) → AreNew es b.names → b.says ≡ Assumed Plain w
       → IsNotRead es w fault → IsReadRefusal b.place fault p c → BindFails es b p c
-  not_read_fails w read.NotBuilt p c new says h r = inl r.1
+  not_read_fails w read.NotBuilt p c new says h r = absurd r
   not_read_fails w (read.Unknown at n) p c new says h r =
       inr (subst (λ x. IsBindingRefused es b p x) (sym r.1) (subst (λ q. IsBindingRefused es b q (cause.UnknownName n)) (sym r.0) (steps.IsBindingRefused.unknown new says h)))
   not_read_fails w (read.TooLarge i j) p c new says h r =
@@ -58,7 +58,7 @@ module _ (es : List Item) (b : Bound) where
   not_read_fails w read.Memory p c new says h r = inl r.1
 
   pub not_assumed_fails : (ty : Core) (fault : TypeFault) (p : Place) (c : Cause) → IsContext es → IsRead es b ty → AssumeFails es b.names ty fault
-      → p ≡ b.place → c ≡ cause_of fault → BindFails es b p c
+      → p ≡ b.place → IsCauseOf fault c → BindFails es b p c
   not_assumed_fails ty (kernel.NotAType term got) p c context r h at is =
       inr (subst (λ x. IsBindingRefused es b p x) (sym is) (subst (λ q. IsBindingRefused es b q (cause.NotAType term got)) (sym at) (steps.IsBindingRefused.no_type r h)))
   not_assumed_fails ty (kernel.Full of held) p c context r h at is =
@@ -68,6 +68,16 @@ module _ (es : List Item) (b : Bound) where
       inr (subst (λ x. IsBindingRefused es b p x) (sym is) (subst (λ q. IsBindingRefused es b q (cause.Full of held)) (sym at) exact))
   not_assumed_fails ty (kernel.NameInUse at') p c context r h at is = absurd h
   not_assumed_fails ty kernel.Memory p c context r h at is = inl is
+
+  -- the form was built
+  pub other_read_fault : (w : Written) (fault : ReadFault) → is_simple w ≡ true → IsNotRead es w fault → fault ≡ read.NotBuilt → ⊥
+  other_read_fault w fault simple h e =
+      let other : is_simple w ≡ false = subst (IsNotRead es w) e h in
+      true≢false (sym simple ∙ other)
+
+  -- the names were new
+  pub other_fault : (ty : Core) (fault : TypeFault) (at : ℕ) → AssumeFails es b.names ty fault → fault ≡ kernel.NameInUse at → ⊥
+  other_fault ty fault at h e = subst (AssumeFails es b.names ty) e h
 
   pub binds : (ty : Core) (new : List Item) → IsContext es → IsRead es b ty → Assumes es b.names ty new → Binds es b new
   binds ty new context r a = record { ty = ty; read = r; is_type = simple_is_type es ty context a.simple; room = a.room; makes = a.makes }

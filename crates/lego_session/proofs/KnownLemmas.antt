@@ -14,7 +14,7 @@ use Rattle.lego_kernel.specs.Entries.{assumption}
 use Rattle.lego_kernel.specs.declared.entry.Entry.{Entry as Item}
 use Rattle.lego_session.specs.Commands.{grammar_tokens, Grows, Answers}
 use Rattle.lego_session.specs.Names.{IsHeldName, AreHeld, AreKnown}
-use Rattle.lego_session.specs.Steps.{assume_all, BindsAll, AreBoundHeld, bounds_of, Step, Answer}
+use Rattle.lego_session.specs.Steps.{assume_all, BindsAll, AreBoundHeld, bounds_of, Step, Reply}
 use Rattle.lego_session.proofs.DenotesNames.{front_at}
 use Rattle.lego_session.proofs.TokenLemmas.{IsTrueName, AreTrueNames, tokens_are_names}
 
@@ -110,19 +110,19 @@ binds_known names (BindsAll.more {es = es} {b = b} h rest) held known =
     binds_known names rest held.1 (subst (AreKnown names) (sym h.makes) (assumed_known names es b.names h.ty held.0 known))
 
 -- a session's step keeps the names of the entries held, where those of the command are
-step_keeps : {names : Names} {old new : List Item} {o : Order} {a : Answer} → Step names old o a new
+step_keeps : {names : Names} {old new : List Item} {o : Order} {a : Reply} → Step names old o a new
     → AreKnown names old → AreBoundHeld names (bounds_of o.deed) → AreKnown names new
 step_keeps {names} (Step.accepted is h) known held = binds_known names h (subst (λ d. AreBoundHeld names (bounds_of d)) is held) known
 step_keeps (Step.refused is h) known held = known
 
-pub outcome_known : {X E : Type 0} (names : Names) (old new : List Item) (o : Order) (outcome : Result X E) (answer : X → Answer)
+pub outcome_known : {X E : Type 0} (names : Names) (old new : List Item) (o : Order) (outcome : Result X E) (answer : X → Reply)
     → IfOk outcome (λ a. Step names old o (answer a) new) → OnErr outcome (new ≡ old)
     → AreKnown names old → AreBoundHeld names (bounds_of o.deed) → AreKnown names new
 outcome_known names old new o (Ok a) answer ok err known held = step_keeps ok known held
 outcome_known names old new o (Err e) answer ok err known held = subst (AreKnown names) (sym err) known
 
 -- a command that is answered leaves entries whose names are held
-pub answered_known : {held names : Names} {old new : List Item} {c : CommandText} {a : Answer}
+pub answered_known : {held names : Names} {old new : List Item} {c : CommandText} {a : Reply}
     → Answers held old c a names new → AreKnown held old → AreKnown names new
 answered_known {old = old} (Answers.step g differ command built h) known = step_keeps h (known_more old g known) (names_held command.parsed command.lexed.lexed)
 answered_known {old = old} (Answers.unread g differ h) known = known_more old g known

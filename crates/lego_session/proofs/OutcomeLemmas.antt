@@ -20,7 +20,7 @@ use Rattle.lego_session.specs.Outcomes.{Ended, AnswersFront, Broken, Overlong, S
 use Rattle.lego_session.specs.Progress.{AreAnswered, Halted, Finished}
 use Rattle.lego_session.proofs.DenotesPrintable.{IsPrintable}
 use Rattle.lego_session.specs.Runs.{Run, Runs, first_place, answers_text, closing_text, refuses, is_ending_refused}
-use Rattle.lego_session.specs.Steps.{Answer}
+use Rattle.lego_session.specs.Steps.{Reply}
 use Rattle.lego_session.specs.declared.status.Status.{Status}
 use Rattle.lego_session.specs.declared.status.Status.TheVariants.{Accepted, Refused, Usage, ReadFault, WriteFault, Memory, OpenProof, TooLong}
 use Rattle.lego_session.proofs.DenotesLemmas.{development_denotes}
@@ -43,7 +43,7 @@ run_of {names = names} {es = es} {ending = ending} h =
     record { commands = h.commands; ending = ending; names = names; answers = h.answers; entries = es; cut = h.cut; runs = h.runs }
 
 -- the entries that a run leaves are printable
-runs_printable : {held names : Names} {old new : List Item} {cs : List CommandText} {answers : List Answer}
+runs_printable : {held names : Names} {old new : List Item} {cs : List CommandText} {answers : List Reply}
     → Runs held old cs answers names new → IsPrintable old → IsPrintable new
 runs_printable Runs.none p = p
 runs_printable (Runs.more h rest) p = runs_printable rest (answered_printable h p)
@@ -54,7 +54,7 @@ none_printable = record {
   plain = λ k d h. absurd (omega (arith, h));
 }
 
-headline : (names : Names) (es : List Item) {cs : List CommandText} {answers : List Answer}
+headline : (names : Names) (es : List Item) {cs : List CommandText} {answers : List Reply}
     → Runs [] [] cs answers names es → AreKnown names es → IsContext es → Headline names es
 headline names es runs known valid = record {
   denotes = development_denotes names es first_place known valid (runs_printable runs none_printable);

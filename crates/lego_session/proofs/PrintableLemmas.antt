@@ -14,7 +14,7 @@ use Rattle.lego_kernel.specs.declared.entry.Entry.{Entry as Item}
 use Rattle.lego_session.specs.Commands.{Answers}
 use Rattle.lego_session.proofs.DenotesPrintable.{NamesDiffer, HasArrows, IsPlain, IsPrintable}
 use Rattle.lego_session.specs.Reading.{ReadsType}
-use Rattle.lego_session.specs.Steps.{AreNew, assume_all, BindsAll, Step, Answer}
+use Rattle.lego_session.specs.Steps.{AreNew, assume_all, BindsAll, Step, Reply}
 use Rattle.lego_session.proofs.DenotesNames.{is_named_so, eq_self, lt_is}
 
 pub none_printable : IsPrintable []
@@ -124,12 +124,12 @@ bound_printable (BindsAll.more {es = es} {b = b} h rest) p =
     bound_printable rest (subst IsPrintable (sym h.makes)
     (all_printable es b.names h.ty (new_absent es b.names h.read.new) (reads_arrows h.read.reads) p))
 
-step_printable : {names : Names} {old new : List Item} {o : Order} {a : Answer} → Step names old o a new → IsPrintable old → IsPrintable new
+step_printable : {names : Names} {old new : List Item} {o : Order} {a : Reply} → Step names old o a new → IsPrintable old → IsPrintable new
 step_printable (Step.accepted is h) p = bound_printable h p
 step_printable (Step.refused is h) p = p
 
 -- a command that is answered leaves printable entries
-pub answered_printable : {held names : Names} {old new : List Item} {c : CommandText} {a : Answer}
+pub answered_printable : {held names : Names} {old new : List Item} {c : CommandText} {a : Reply}
     → Answers held old c a names new → IsPrintable old → IsPrintable new
 answered_printable (Answers.step g differ command built h) p = step_printable h p
 answered_printable (Answers.unread g differ h) p = p

@@ -5,6 +5,7 @@ use Rattle.std.proofs.lemmas.Bool.Decides.{nat_tests}
 use Rattle.std.proofs.lemmas.List.Quantifiers.{position-Some}
 use Rattle.lego_base.specs.declared.place.Place.{Place}
 use Rattle.lego_term.specs.Trees.{Core, Const, Prop, Pi}
+use Rattle.lego_term.specs.Made.{Fits}
 use Rattle.lego_term.specs.declared.binder.Mark.{Mark}
 use Rattle.lego_term.specs.declared.binder.Mark.TheVariants.{Plain, Implicit}
 use Rattle.lego_grammar.specs.Surface.{written, written_step, applied, projected, bound_of, says_of}
@@ -126,26 +127,32 @@ module _ (es : List Item) where
   domain_not_read w a b (TooLarge i j) e h = subst (λ w. FirstTooLarge es w i j) (sym e) (reading.FirstTooLarge.domain h)
   domain_not_read w a b Memory e h = tt
 
-  pub body_not_read : (w a b : Written) (c : Core) (fault : ReadFault) → w ≡ Bind Kind.Pi Plain [] a b → ReadsType es a c → IsNotRead es b fault → IsNotRead es w fault
-  body_not_read w a b c NotBuilt e r h = ap is_simple e ∙ ap (λ x. is_simple a && x) h ∙ and_false (is_simple a)
-  body_not_read w a b c (Unknown p n) e r h = subst (λ w. FirstUnknown es w p n) (sym e) (reading.FirstUnknown.body r h)
-  body_not_read w a b c (TooLarge i j) e r h = subst (λ w. FirstTooLarge es w i j) (sym e) (reading.FirstTooLarge.body r h)
-  body_not_read w a b c Memory e r h = tt
+  pub body_not_read : (w a b : Written) (c : Core) (fault : ReadFault) → w ≡ Bind Kind.Pi Plain [] a b → ReadsType es a c → Fits c
+      → IsNotRead es b fault → IsNotRead es w fault
+  body_not_read w a b c NotBuilt e r l h = ap is_simple e ∙ ap (λ x. is_simple a && x) h ∙ and_false (is_simple a)
+  body_not_read w a b c (Unknown p n) e r l h = subst (λ w. FirstUnknown es w p n) (sym e) (reading.FirstUnknown.body r l h)
+  body_not_read w a b c (TooLarge i j) e r l h = subst (λ w. FirstTooLarge es w i j) (sym e) (reading.FirstTooLarge.body r l h)
+  body_not_read w a b c Memory e r l h = tt
 
   pub arrow_reads : (w a b : Written) (c d : Core) (result : Result Core ReadFault) → w ≡ Bind Kind.Pi Plain [] a b
-      → ReadsType es a c × IsSimpleOver es c → ReadsType es b d × IsSimpleOver es d → IsMade (Pi arrow_binder c d) result → IsReading es w result
+      → ReadsType es a c × IsSimpleOver es c × Fits c → ReadsType es b d × IsSimpleOver es d × Fits d → IsMade (Pi arrow_binder c d) result → IsReading es w result
   arrow_reads w a b c d (Ok made) e r s m = (
-    subst (λ t. ReadsType es w t) (sym m) (subst (λ w. ReadsType es w (Pi arrow_binder c d)) (sym e) (reading.ReadsType.arrow r.0 s.0)),
-    subst (λ t. IsSimpleOver es t) (sym m) (r.1, s.1),
+    subst (λ t. ReadsType es w t) (sym m.0) (subst (λ w. ReadsType es w (Pi arrow_binder c d)) (sym e) (reading.ReadsType.arrow r.0 s.0)),
+    subst (λ t. IsSimpleOver es t) (sym m.0) (r.1, s.1),
+    subst Fits (sym m.0) m.1,
   )
   arrow_reads w a b c d (Err (TooLarge i j)) e r s m =
-      subst (λ w. FirstTooLarge es w i j) (sym e) (reading.FirstTooLarge.whole r.0 s.0 m.0 m.1 m.2)
+      subst (λ w. FirstTooLarge es w i j) (sym e) (reading.FirstTooLarge.whole r.0 r.2 s.0 s.2 m.0 m.1 m.2)
   arrow_reads w a b c d (Err NotBuilt) e r s m = absurd m
   arrow_reads w a b c d (Err (Unknown p n)) e r s m = absurd m
   arrow_reads w a b c d (Err Memory) e r s m = tt
 
   pub prop_reads : (w : Written) (result : Result Core ReadFault) → w ≡ WrittenProp → IsMade Prop result → IsReading es w result
-  prop_reads w (Ok made) e m = (subst (λ t. ReadsType es w t) (sym m) (subst (λ w. ReadsType es w Prop) (sym e) reading.ReadsType.prop), subst (λ t. IsSimpleOver es t) (sym m) tt)
+  prop_reads w (Ok made) e m = (
+    subst (λ t. ReadsType es w t) (sym m.0) (subst (λ w. ReadsType es w Prop) (sym e) reading.ReadsType.prop),
+    subst (λ t. IsSimpleOver es t) (sym m.0) tt,
+    subst Fits (sym m.0) m.1,
+  )
   prop_reads w (Err (TooLarge i j)) e m = absurd (no_leaf m.0)
   prop_reads w (Err NotBuilt) e m = absurd m
   prop_reads w (Err (Unknown p n)) e m = absurd m
@@ -153,8 +160,11 @@ module _ (es : List Item) where
 
   pub name_reads : (p : Place) (n i : ℕ) (e : Item) (result : Result Core ReadFault) → IsContext es → position_of es n ≡ Some i → slice_get es i ≡ Some e
       → IsMade (Const e.number) result → IsReading es (Named p n) result
-  name_reads p n i e (Ok made) c at is m =
-      (subst (λ t. ReadsType es (Named p n) t) (sym m) (reading.ReadsType.name i at is), subst (λ t. IsSimpleOver es t) (sym m) (subst (λ n. e.number < n) (zero-add (length es)) (number_within 0 i es e c.simple is)))
+  name_reads p n i e (Ok made) c at is m = (
+    subst (λ t. ReadsType es (Named p n) t) (sym m.0) (reading.ReadsType.name i at is),
+    subst (λ t. IsSimpleOver es t) (sym m.0) (subst (λ n. e.number < n) (zero-add (length es)) (number_within 0 i es e c.simple is)),
+    subst Fits (sym m.0) m.1,
+  )
   name_reads p n i e (Err (TooLarge x y)) c at is m = absurd (no_leaf m.0)
   name_reads p n i e (Err NotBuilt) c at is m = absurd m
   name_reads p n i e (Err (Unknown q k)) c at is m = absurd m

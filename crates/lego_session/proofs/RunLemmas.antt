@@ -18,19 +18,19 @@ use Rattle.lego_session.specs.Commands.{Answers}
 use Rattle.lego_session.specs.Outcomes.{AnswersFront}
 use Rattle.lego_session.specs.Progress.{Reached, IsCommandAt, AreAnswered}
 use Rattle.lego_session.specs.Runs.{Runs, first_place, answers_text, some_refused}
-use Rattle.lego_session.specs.Steps.{Answer}
+use Rattle.lego_session.specs.Steps.{Reply}
 
 -- a run of one command more
-pub runs-push : {held names last : Names} {old mid new : List Item} {cs : List CommandText} {answers : List Answer} (c : CommandText) (a : Answer)
+pub runs-push : {held names last : Names} {old mid new : List Item} {cs : List CommandText} {answers : List Reply} (c : CommandText) (a : Reply)
     → Runs held old cs answers names mid → Answers names mid c a last new → Runs held old (cs ++ c ∷ []) (answers ++ a ∷ []) last new
 runs-push c a Runs.none h = Runs.more h Runs.none
 runs-push c a (Runs.more g r) h = Runs.more g (runs-push c a r h)
 
-text-push : (answers : List Answer) (a : Answer) → answers_text (answers ++ a ∷ []) ≡ answers_text answers ++ a.text
-text-push answers a = flat_map-append (λ (b : Answer). b.text) answers (a ∷ []) ∙ ap (λ (t : List ℕ). answers_text answers ++ t) (append-nil a.text)
+text-push : (answers : List Reply) (a : Reply) → answers_text (answers ++ a ∷ []) ≡ answers_text answers ++ a.text
+text-push answers a = flat_map-append (λ (b : Reply). b.text) answers (a ∷ []) ∙ ap (λ (t : List ℕ). answers_text answers ++ t) (append-nil a.text)
 
-refused-push : (answers : List Answer) (a : Answer) → some_refused (answers ++ a ∷ []) ≡ (some_refused answers || a.refused)
-refused-push answers a = list_any-append (λ (b : Answer). b.refused) answers (a ∷ []) ∙ ap (λ b. some_refused answers || b) (or-false a.refused)
+refused-push : (answers : List Reply) (a : Reply) → some_refused (answers ++ a ∷ []) ≡ (some_refused answers || a.refused)
+refused-push answers a = list_any-append (λ (b : Reply). b.refused) answers (a ∷ []) ∙ ap (λ b. some_refused answers || b) (or-false a.refused)
 
 -- before the first command
 pub reached_first : (bytes : List ℕ) (t : Option (List ℕ)) → Reached bytes 0 first_place [] [] false t t
@@ -72,7 +72,7 @@ module _ (bytes : List ℕ) (at : ℕ) (place : Place) (held : Names) (old : Lis
   }
 
   -- one command more is answered
-  module _ (here : Place) (start end : ℕ) (there : IsCommandAt bytes at place here start end) (names : Names) (new : List Item) (a : Answer)
+  module _ (here : Place) (start end : ℕ) (there : IsCommandAt bytes at place here start end) (names : Names) (new : List Item) (a : Reply)
       (step : Answers held old (record { place = here; bytes = slice_range bytes start end }) a names new) where
     came : List ℕ
     came = r.came ++ slice_range bytes at end

@@ -7,7 +7,7 @@ use Rattle.lego_grammar.specs.Grammar.{Names}
 use Rattle.lego_grammar.specs.Written.{Bound, Bindings, Order}
 use Rattle.lego_kernel.specs.declared.entry.Entry.{Entry as Item}
 use Rattle.lego_session.specs.Binding.{IsFront, BindAllFails}
-use Rattle.lego_session.specs.Refusals.{refusal_text, IsRefusedBy}
+use Rattle.lego_session.specs.Refusals.{refusal_text, IsRefusalOf}
 use Rattle.lego_session.specs.Steps.{Binds, BindsAll, AreRefused, Step, IsRefusal}
 use Rattle.lego_session.specs.Steps as steps
 use Rattle.lego_session.specs.Texts.{entry_lines}
@@ -39,7 +39,7 @@ module _ (names : Names) (old mid : List Item) (o : Order) (bs : List Bound) (is
   dropped-again (Ok a) before new at made h = tt
   dropped-again (Err e) before new at made h = h ∙ ap (λ n. take n mid) at ∙ front-binds old (front-self old) made
 
-  pub refused-steps : (fp p : Place) (fc c : Cause) (text : List ℕ) → BindAllFails old bs mid fp fc → IsRefusedBy names mid fp fc p c text → IsRefusal names old o p c text
+  pub refused-steps : (fp p : Place) (fc c : Cause) (text : List ℕ) → BindAllFails old bs mid fp fc → IsRefusalOf names mid fp fc p c text → IsRefusal names old o p c text
   refused-steps fp p fc c text fails by = elim by [
     | inl m ↦ inl m
     | inr r ↦ inr (bs, mid, is, refused r.0 r.1 r.2 fails.0, r.3 ∙ ap₂ (λ q x. refusal_text names mid q x) (sym r.1) (sym r.2))

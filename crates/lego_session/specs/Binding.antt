@@ -39,16 +39,16 @@ AssumeFails es ns ty Kernel.Memory = Unit {0}
 abbrev pub IsFront : List Item → List Item → Type 0
 IsFront old new = take (length old) new ≡ old
 
--- the cause of a kernel's refusal
-abbrev pub cause_of : TypeFault → Cause
-cause_of (Kernel.NotAType term got) = NotAType term got
-cause_of (Kernel.Full of held) = Full of held
-cause_of (Kernel.NameInUse at) = Memory
-cause_of Kernel.Memory = Memory
+-- the cause for a kernel's refusal of names that are new
+abbrev pub IsCauseOf : TypeFault → Cause → Type 0
+IsCauseOf (Kernel.NotAType term got) cause = cause ≡ NotAType term got
+IsCauseOf (Kernel.Full of held) cause = cause ≡ Full of held
+IsCauseOf (Kernel.NameInUse at) cause = ⊥
+IsCauseOf Kernel.Memory cause = cause ≡ Memory
 
--- the refusal of a written type, whose binding stands at the first place
+-- the refusal of a simple written type, whose binding stands at the first place
 abbrev pub IsReadRefusal : Place → ReadFault → Place → Cause → Type 0
-IsReadRefusal place Read.NotBuilt p cause = (p ≡ place) × (cause ≡ Memory)
+IsReadRefusal place Read.NotBuilt p cause = ⊥
 IsReadRefusal place (Read.Unknown at name) p cause = (p ≡ at) × (cause ≡ UnknownName name)
 IsReadRefusal place (Read.TooLarge i j) p cause = (p ≡ place) × (cause ≡ TooLarge i j)
 IsReadRefusal place Read.Memory p cause = (p ≡ place) × (cause ≡ Memory)

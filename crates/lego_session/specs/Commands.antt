@@ -12,7 +12,7 @@ use Rattle.lego_grammar.specs.Written.{Order}
 use Rattle.lego_kernel.specs.declared.entry.Entry.{Entry as Item}
 use Rattle.lego_session.specs.Reading.{is_built}
 use Rattle.lego_session.specs.Refusals.{refusal_text}
-use Rattle.lego_session.specs.Steps.{Answer, Step}
+use Rattle.lego_session.specs.Steps.{Reply, Step}
 use Rattle.lego_session.specs.declared.refusal.Cause.{Cause}
 use Rattle.lego_session.specs.declared.refusal.Cause.TheVariants.{BadByte, OpenComment, LongName, BigLevel, Unexpected, TooDeep, LongCommand, NamesFull, Memory}
 
@@ -87,8 +87,8 @@ abbrev pub IsUnreadBy : (held left : Names) → CommandText → Place → Cause 
 IsUnreadBy held left c p cause = (cause ≡ Memory) ⊎ IsUnread held left c p cause
 
 -- The answer to one command's bytes. The numbering grows by names among its tokens, to one within the limit.
-pub data Answers (held : Names) (old : List Item) (c : CommandText) : Answer → Names → List Item → Type 0 where
-  step : {names : Names} {o : Order} {answer : Answer} {new : List Item}
+pub data Answers (held : Names) (old : List Item) (c : CommandText) : Reply → Names → List Item → Type 0 where
+  step : {names : Names} {o : Order} {answer : Reply} {new : List Item}
       → Grows c held names → IsNumbering names → IsCommand names c o → is_built o.deed ≡ true → Step names old o answer new
       → Answers held old c answer names new
   unread : {names : Names} {p : Place} {cause : Cause}

@@ -11,7 +11,7 @@ use Rattle.lego_kernel.specs.Contexts.{IsContext}
 use Rattle.lego_kernel.specs.declared.entry.Entry.{Entry as Item}
 use Rattle.lego_session.specs.Outcomes.{AnswersFront}
 use Rattle.lego_session.specs.Runs.{Runs, first_place, answers_text, some_refused, closing_text, is_ending_refused}
-use Rattle.lego_session.specs.Steps.{Answer}
+use Rattle.lego_session.specs.Steps.{Reply}
 use Rattle.lego_session.specs.declared.running.Next.{Next}
 use Rattle.lego_session.specs.declared.running.Rest.{Rest}
 use Rattle.lego_session.specs.declared.script.End.{End}
@@ -55,7 +55,7 @@ IsNext bytes at place (Next.End rest) = Cuts place (drop at bytes) [] (ending_of
 pub record Reached (bytes : List ℕ) (at : ℕ) (place : Place) (names : Names) (es : List Item) (refused : Bool) (taken taken' : Option (List ℕ)) : Type 0 where
   pub came : List ℕ
   pub commands : List CommandText
-  pub answers : List Answer
+  pub answers : List Reply
   pub parts : bytes ≡ came ++ drop at bytes
   pub cuts : (rest : List ℕ) (others : List CommandText) (ending : Ending)
       → Cuts place rest others ending → Cuts first_place (came ++ rest) (commands ++ others) ending
@@ -66,7 +66,7 @@ pub record Reached (bytes : List ℕ) (at : ℕ) (place : Place) (names : Names)
 -- all commands are answered, and the answers were taken
 pub record AreAnswered (bytes : List ℕ) (names : Names) (es : List Item) (refused : Bool) (ending : Ending) (taken taken' : Option (List ℕ)) : Type 0 where
   pub commands : List CommandText
-  pub answers : List Answer
+  pub answers : List Reply
   pub cut : Cuts first_place bytes commands ending
   pub runs : Runs [] [] commands answers names es
   pub refusal : some_refused answers ≡ refused

@@ -54,6 +54,6 @@ abbrev pub refusal_text : Names → List Item → Place → Cause → List ℕ
 refusal_text names es place cause = codes "refused " ++ place_text place ++ codes " " ++ cause_text names es cause ++ codes "\n"
 
 -- the refusal has the place, the cause and their text; without memory it says so, and has no text
-abbrev pub IsRefusedBy : Names → List Item → Place → Cause → Place → Cause → List ℕ → Type 0
-IsRefusedBy names es place cause p c text =
+abbrev pub IsRefusalOf : Names → List Item → Place → Cause → Place → Cause → List ℕ → Type 0
+IsRefusalOf names es place cause p c text =
     ((c ≡ Memory) × (text ≡ [])) ⊎ ((cause ≡ Memory → ⊥) × (p ≡ place) × (c ≡ cause) × (text ≡ refusal_text names es place cause))

@@ -7,7 +7,7 @@ use Rattle.lego_grammar.specs.Grammar.{Names}
 use Rattle.lego_kernel.specs.declared.entry.Entry.{Entry as Item}
 use Rattle.lego_session.specs.Commands.{Answers}
 use Rattle.lego_session.specs.Refusals.{refusal_text}
-use Rattle.lego_session.specs.Steps.{Answer}
+use Rattle.lego_session.specs.Steps.{Reply}
 use Rattle.lego_session.specs.Texts.{development_text}
 use Rattle.lego_session.specs.declared.refusal.Cause.TheVariants as Cause
 
@@ -16,9 +16,9 @@ abbrev pub first_place : Place
 first_place = record { line = 1; column = 1 }
 
 -- Commands are answered one after the other: each takes the names and the entries that the one before it left.
-pub data Runs : Names → List Item → List CommandText → List Answer → Names → List Item → Type 0 where
+pub data Runs : Names → List Item → List CommandText → List Reply → Names → List Item → Type 0 where
   none : {names : Names} {es : List Item} → Runs names es [] [] names es
-  more : {held names last : Names} {old mid new : List Item} {c : CommandText} {cs : List CommandText} {a : Answer} {answers : List Answer}
+  more : {held names last : Names} {old mid new : List Item} {c : CommandText} {cs : List CommandText} {a : Reply} {answers : List Reply}
       → Answers held old c a names mid → Runs names mid cs answers last new → Runs held old (c ∷ cs) (a ∷ answers) last new
 
 -- The bytes are cut into commands, which are answered, with no name and no entry at first.
@@ -26,7 +26,7 @@ pub record Run (bytes : List ℕ) : Type 0 where
   pub commands : List CommandText
   pub ending : Ending
   pub names : Names
-  pub answers : List Answer
+  pub answers : List Reply
   pub entries : List Item
   pub cut : Cuts first_place bytes commands ending
   pub runs : Runs [] [] commands answers names entries
@@ -42,10 +42,10 @@ is_ending_refused Whole = false
 is_ending_refused (Unended place) = true
 is_ending_refused (OpenComment place) = true
 
-abbrev pub answers_text : List Answer → List ℕ
+abbrev pub answers_text : List Reply → List ℕ
 answers_text answers = flat_map (λ a. a.text) answers
 
-abbrev pub some_refused : List Answer → Bool
+abbrev pub some_refused : List Reply → Bool
 some_refused answers = list_any (λ a. a.refused) answers
 
 -- what follows the answers, where the end was read: the refusal of the ending, and the development

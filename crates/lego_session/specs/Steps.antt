@@ -3,6 +3,7 @@ use Rattle.std.specs.Prelude.{◌≡◌, ℕ, ◌+◌, ◌<◌, ◌≤◌, Bool,
 use Rattle.std.specs.List.{list_any, AllByRecursion}
 use Rattle.lego_base.specs.declared.place.Place.{Place}
 use Rattle.lego_term.specs.Trees.{Core}
+use Rattle.lego_term.specs.Made.{Fits}
 use Rattle.lego_term.specs.declared.binder.Mark.{Mark}
 use Rattle.lego_term.specs.declared.binder.Mark.TheVariants.{Plain}
 use Rattle.lego_term.specs.declared.seen.Seen.{Seen}
@@ -36,12 +37,13 @@ abbrev pub assume_all : List Item → Mark → List ℕ → Core → List Item
 assume_all es mark [] ty = es
 assume_all es mark (n ∷ ns) ty = assume_all (es ++ assumption es n mark ty ∷ []) mark ns ty
 
--- a binding's names are new, and its type is read as this core, over these entries
+-- a binding's names are new, and its type is read as this core within the limits, over these entries
 pub record IsRead (es : List Item) (b : Bound) (ty : Core) : Type 0 where
   pub new : AreNew es b.names
   pub written : Written
   pub says : b.says ≡ Assumed Plain written
   pub reads : ReadsType es written ty
+  pub fits : Fits ty
 
 -- each binding has a name, and a place for each of its names
 abbrev pub HasPlaces : List Bound → Type 0
@@ -90,13 +92,13 @@ abbrev pub AreBoundHeld : Names → List Bound → Type 0
 AreBoundHeld names bs = AllByRecursion (λ b. AreHeld names b.names) bs
 
 -- what a command is answered: its text, and whether it is refused
-pub record Answer : Type 0 where
+pub record Reply : Type 0 where
   pub refused : Bool
   pub text : List ℕ
 
 -- One step over a numbering. An accepted command answers a line for each new entry; a refused one changes nothing, and its
 -- text has the names in scope where it stands.
-pub data Step (names : Names) : List Item → Order → Answer → List Item → Type 0 where
+pub data Step (names : Names) : List Item → Order → Reply → List Item → Type 0 where
   accepted : {old new : List Item} {o : Order} {bs : List Bound} → o.deed ≡ Bindings bs → BindsAll old bs new
       → Step names old o (record { refused = false; text = entry_lines names new (drop (length old) new) }) new
   refused : {old last : List Item} {o : Order} {bs : List Bound} {p : Place} {cause : Cause} → o.deed ≡ Bindings bs → AreRefused old bs last p cause

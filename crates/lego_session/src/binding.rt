@@ -6,10 +6,10 @@ ghost use Rattle.lego_kernel.specs.Entries.{position_of};
 ghost use Rattle.lego_kernel.specs.Simple.{IsSimpleOver};
 ghost use Rattle.lego_session.specs.Reading.{is_simple_assumption};
 ghost use Rattle.lego_session.specs.Steps.{AreNew, Binds, BindsAll, HasPlaces};
-ghost use Rattle.lego_session.specs.Binding.{IsFirstUsed, Assumes, AssumeFails, IsFront, IsReadRefusal, cause_of, BindFails, BindAllFails};
+ghost use Rattle.lego_session.specs.Binding.{IsFirstUsed, Assumes, AssumeFails, IsFront, IsReadRefusal, IsCauseOf, BindFails, BindAllFails};
 
 use crate::reading::{ReadFault, core_of};
-use crate::refusal::Cause;
+use crate::refusal::{Cause, Reason};
 use indexmap::IndexSet;
 use lego_base::Place;
 use lego_grammar::{Binding, BindingKind};
@@ -17,20 +17,13 @@ use lego_kernel::{At, Context, TypeFault};
 use lego_term::{Mark, Term};
 use std::alloc::{AllocError, Global};
 
-/// Why a binding is refused, and where.
-#[derive(Drop)]
-pub(crate) struct BindFault {
-    pub place: Place,
-    pub cause: Cause,
-}
-
 /// Makes the entries of all the bindings; a refused one leaves those of the bindings before.
 pub(crate) fn bind_all(
     alloc: Global,
     context: &mut Context,
     bindings: &[Binding],
     limit: u64,
-) -> Result<(), BindFault>
+) -> Result<(), Reason>
     requires built { list_all (λ b. is_simple_assumption (says_of b.kind)) bindings.now ≡ true }
     requires written { HasPlaces (map bound_of bindings.now) }
     ensures ok { OnOk result (BindsAll context.old (map bound_of bindings.now) context.new) }
@@ -45,12 +38,7 @@ pub(crate) fn bind_all(
 }
 
 /// Makes the entries of one binding, or none.
-fn bind(
-    alloc: Global,
-    context: &mut Context,
-    binding: &Binding,
-    limit: u64,
-) -> Result<(), BindFault>
+fn bind(alloc: Global, context: &mut Context, binding: &Binding, limit: u64) -> Result<(), Reason>
     requires built { is_simple_assumption (says_of binding.now.kind) ≡ true }
     requires places { length binding.now.places ≡ length binding.now.names }
     requires some { 0 < length binding.now.names }
@@ -126,13 +114,13 @@ fn assume_names(context: &mut Context, names: &[u32], ty: &Term, at: At) -> Resu
 }
 
 /// The refusal of the name at a place of the list.
-fn in_use(binding: &Binding, at: usize) -> BindFault
+fn in_use(binding: &Binding, at: usize) -> Reason
     requires places { at < length binding.now.places }
     requires names { at < length binding.now.names }
     ensures place { slice_get binding.now.places at ≡ Some result.place }
     ensures cause { (n : ℕ) × (slice_get binding.now.names at ≡ Some n) × (result.cause ≡ Cause.NameInUse n) }
 {
-    BindFault {
+    Reason {
         place: binding.places.items()[at],
         cause: Cause::NameInUse {
             name: binding.names.items()[at],
@@ -140,17 +128,18 @@ fn in_use(binding: &Binding, at: usize) -> BindFault
     }
 }
 
-/// The refusal of a written type that is not read.
-fn not_read(place: Place, fault: ReadFault) -> BindFault
+/// The refusal of a simple written type that is not read.
+fn not_read(place: Place, fault: ReadFault) -> Reason
+    requires { fault ≡ ReadFault.NotBuilt → ⊥ }
     ensures { IsReadRefusal place fault result.place result.cause }
 {
     match fault {
-        ReadFault::NotBuilt => memory(place),
-        ReadFault::Unknown { place, name } => BindFault {
+        ReadFault::NotBuilt => unreachable!(),
+        ReadFault::Unknown { place, name } => Reason {
             place,
             cause: Cause::UnknownName { name },
         },
-        ReadFault::TooLarge { size, depth } => BindFault {
+        ReadFault::TooLarge { size, depth } => Reason {
             place,
             cause: Cause::TooLarge { size, depth },
         },
@@ -158,26 +147,27 @@ fn not_read(place: Place, fault: ReadFault) -> BindFault
     }
 }
 
-/// The refusal of an assumption.
-fn not_assumed(place: Place, fault: TypeFault) -> BindFault
+/// The refusal of an assumption whose name is new.
+fn not_assumed(place: Place, fault: TypeFault) -> Reason
+    requires { (at : ℕ) → fault ≡ TypeFault.NameInUse at → ⊥ }
     ensures place { result.place ≡ place }
-    ensures cause { result.cause ≡ cause_of fault }
+    ensures cause { IsCauseOf fault result.cause }
 {
     let cause = match fault {
         TypeFault::NotAType { term, got } => Cause::NotAType { term, got },
         TypeFault::Full { of, held } => Cause::Full { of, held },
-        TypeFault::NameInUse { .. } => Cause::Memory,
+        TypeFault::NameInUse { .. } => unreachable!(),
         TypeFault::Memory => Cause::Memory,
     };
-    BindFault { place, cause }
+    Reason { place, cause }
 }
 
 /// Memory ran out.
-fn memory(place: Place) -> BindFault
+fn memory(place: Place) -> Reason
     ensures place { result.place ≡ place }
     ensures cause { result.cause ≡ Cause.Memory }
 {
-    BindFault {
+    Reason {
         place,
         cause: Cause::Memory,
     }

@@ -15,6 +15,7 @@ mod tests;
 mod text;
 mod unread;
 
+pub use reading::is_built;
 pub use refusal::{Cause, Refusal};
 pub use running::run;
 pub use session::{Answer, Session};

@@ -4,7 +4,7 @@ ghost use Rattle.std.specs.List.{list_all};
 ghost use Rattle.lego_term.specs.Trees.{Const, Prop, Pi};
 ghost use Rattle.lego_grammar.specs.Surface.{written, deed_of_act, says_of};
 ghost use Rattle.lego_grammar.specs.Written.{Named};
-ghost use Rattle.lego_session.specs.Reading.{is_arrow, is_simple, is_simple_assumption, is_built, arrow_binder, IsReading, IsMade};
+ghost use Rattle.lego_session.specs.Reading.{is_arrow, is_simple, is_simple_assumption, is_built, arrow_binder, read_fault, IsReading, IsMade};
 
 use lego_base::Place;
 use lego_grammar::{Act, Binding, BindingKind, Kind, Surface};
@@ -25,8 +25,19 @@ pub(crate) enum ReadFault {
     Memory,
 }
 
+impl From<TermFault> for ReadFault {
+    ghost from_gives = { λ fault read. read ≡ read_fault fault };
+
+    fn from(fault: TermFault) -> ReadFault {
+        match fault {
+            TermFault::TooLarge { size, depth } => ReadFault::TooLarge { size, depth },
+            TermFault::Memory => ReadFault::Memory,
+        }
+    }
+}
+
 /// Whether the form of a command is built.
-pub(crate) fn is_built(act: &Act) -> bool
+pub fn is_built(act: &Act) -> bool
     ensures { result ≡ is_built (deed_of_act act.now) }
 {
     match act {
@@ -158,21 +169,13 @@ fn constant_of(alloc: Global, context: &Context, place: Place, name: u32) -> Res
 fn constant(alloc: Global, number: u32) -> Result<Term, ReadFault>
     ensures { IsMade (Const number) result }
 {
-    match konst(alloc, number) {
-        Ok(core) => Ok(core),
-        Err(TermFault::TooLarge { size, depth }) => Err(ReadFault::TooLarge { size, depth }),
-        Err(TermFault::Memory) => Err(ReadFault::Memory),
-    }
+    Ok(konst(alloc, number)?)
 }
 
 fn proposition(alloc: Global) -> Result<Term, ReadFault>
     ensures { IsMade Prop result }
 {
-    match prop(alloc) {
-        Ok(core) => Ok(core),
-        Err(TermFault::TooLarge { size, depth }) => Err(ReadFault::TooLarge { size, depth }),
-        Err(TermFault::Memory) => Err(ReadFault::Memory),
-    }
+    Ok(prop(alloc)?)
 }
 
 fn arrow(alloc: Global, domain: &Term, body: &Term) -> Result<Term, ReadFault>
@@ -182,9 +185,5 @@ fn arrow(alloc: Global, domain: &Term, body: &Term) -> Result<Term, ReadFault>
         name: None,
         mark: Mark::Plain,
     };
-    match pi(alloc, binder, domain, body) {
-        Ok(core) => Ok(core),
-        Err(TermFault::TooLarge { size, depth }) => Err(ReadFault::TooLarge { size, depth }),
-        Err(TermFault::Memory) => Err(ReadFault::Memory),
-    }
+    Ok(pi(alloc, binder, domain, body)?)
 }

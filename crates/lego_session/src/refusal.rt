@@ -1,7 +1,7 @@
 //! Refusals of commands.
 
 ghost use Rattle.std.specs.Prelude.{◌≡◌, []};
-ghost use Rattle.lego_session.specs.Refusals.{IsRefusedBy};
+ghost use Rattle.lego_session.specs.Refusals.{IsRefusalOf};
 
 use crate::refusal_text::refusal_text;
 use lego_base::{Names, Place};
@@ -45,6 +45,13 @@ pub enum Cause {
     Memory,
 }
 
+/// Why a command is refused, and where.
+#[derive(Drop)]
+pub(crate) struct Reason {
+    pub place: Place,
+    pub cause: Cause,
+}
+
 /// A refused command: where, why, and the text of the answer, which is empty where memory
 /// ran out. The state is as before.
 #[derive(Drop)]
@@ -75,7 +82,7 @@ impl Refusal {
         place: Place,
         cause: Cause,
     ) -> Refusal
-        ensures { IsRefusedBy names.now context.now place cause result.place result.cause result.text }
+        ensures { IsRefusalOf names.now context.now place cause result.place result.cause result.text }
     {
         if let Cause::Memory = cause {
             return Refusal::memory(alloc, place);

@@ -4,13 +4,13 @@ ghost use Rattle.lego_grammar.specs.Surface.{order_of};
 ghost use Rattle.lego_kernel.specs.Contexts.{IsContext};
 ghost use Rattle.lego_session.specs.Names.{AreKnown};
 ghost use Rattle.lego_session.specs.Reading.{is_built};
-ghost use Rattle.lego_session.specs.Refusals.{IsRefusedBy};
+ghost use Rattle.lego_session.specs.Refusals.{IsRefusalOf};
 ghost use Rattle.lego_session.specs.Steps.{HasPlaces, AreBoundHeld, bounds_of, Step, IsRefusal};
 ghost use Rattle.lego_session.specs.Texts.{entry_lines, development_text};
 ghost use Rattle.lego_session.specs.declared.refusal.Cause.TheVariants.{Memory};
 
-use crate::binding::{BindFault, bind_all};
-use crate::refusal::{Cause, Refusal};
+use crate::binding::bind_all;
+use crate::refusal::{Cause, Reason, Refusal};
 use crate::text::{development, entry_lines};
 use lego_base::{Names, Place};
 use lego_grammar::{Act, Command};
@@ -85,7 +85,7 @@ impl Session {
 
     /// The refusal for a cause, over the entries as they are.
     pub(crate) fn refusal(&self, names: &Names, place: Place, cause: Cause) -> Refusal
-        ensures { IsRefusedBy names.now self.now place cause result.place result.cause result.text }
+        ensures { IsRefusalOf names.now self.now place cause result.place result.cause result.text }
     {
         Refusal::of(self.alloc, names, &self.context, place, cause)
     }
@@ -111,9 +111,9 @@ impl Session {
     }
 
     /// The refusal for a fault; the entries from a place on go again.
-    fn refused(&mut self, names: &Names, before: usize, fault: BindFault) -> Refusal
+    fn refused(&mut self, names: &Names, before: usize, fault: Reason) -> Refusal
         requires { before ≤ length self.old }
-        ensures text { IsRefusedBy names.now self.old fault.place fault.cause result.place result.cause result.text }
+        ensures text { IsRefusalOf names.now self.old fault.place fault.cause result.place result.cause result.text }
         ensures dropped { self.new ≡ take before self.old }
     {
         let refusal = Refusal::of(self.alloc, names, &self.context, fault.place, fault.cause);

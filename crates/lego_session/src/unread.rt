@@ -9,7 +9,7 @@ ghost use Rattle.lego_session.specs.Unread.{StandsAt, FirstStandElsewhere, HasIt
 ghost use Rattle.lego_session.specs.Reading.{is_built};
 
 use crate::reading::is_built;
-use crate::refusal::Cause;
+use crate::refusal::{Cause, Reason};
 use lego_base::{Names, Place};
 use lego_grammar::{Command, ParseFault, parse};
 use lego_lexer::{LexFault, Token, lex};
@@ -19,20 +19,13 @@ use std::alloc::Global;
 /// The most bytes of a command.
 const MAX_COMMAND: usize = 65_536;
 
-/// Why bytes are no command that runs, and where.
-#[derive(Drop)]
-pub(crate) struct Unread {
-    pub place: Place,
-    pub cause: Cause,
-}
-
 /// The command that the bytes are, whose first byte stands at the place.
 pub(crate) fn read_command(
     alloc: Global,
     names: &mut Names,
     place: Place,
     bytes: &[u8],
-) -> Result<Command, Unread>
+) -> Result<Command, Reason>
     requires line { place.line + length bytes.now ≤ 33554433 }
     requires column { place.column + length bytes.now ≤ 33554433 }
     requires some { length bytes.now ≤ 16777216 }
@@ -43,7 +36,7 @@ pub(crate) fn read_command(
     ensures grown { Grows (record { place = place; bytes = bytes.now }) names.old names.new }
 {
     if bytes.len() > MAX_COMMAND {
-        return Err(Unread {
+        return Err(Reason {
             place,
             cause: Cause::LongCommand {
                 bytes: bytes.len() as u64,
@@ -57,28 +50,28 @@ pub(crate) fn read_command(
 }
 
 /// Why bytes have no tokens.
-fn not_lexed(place: Place, fault: LexFault) -> Unread
+fn not_lexed(place: Place, fault: LexFault) -> Reason
     ensures place { result.place ≡ lex_place fault place }
     ensures cause { result.cause ≡ lex_cause fault }
 {
     match fault {
-        LexFault::BadByte { place, byte } => Unread {
+        LexFault::BadByte { place, byte } => Reason {
             place,
             cause: Cause::BadByte { byte },
         },
-        LexFault::OpenComment { place } => Unread {
+        LexFault::OpenComment { place } => Reason {
             place,
             cause: Cause::OpenComment,
         },
-        LexFault::LongName { place } => Unread {
+        LexFault::LongName { place } => Reason {
             place,
             cause: Cause::LongName,
         },
-        LexFault::BigLevel { place } => Unread {
+        LexFault::BigLevel { place } => Reason {
             place,
             cause: Cause::BigLevel,
         },
-        LexFault::Memory => Unread {
+        LexFault::Memory => Reason {
             place,
             cause: Cause::Memory,
         },
@@ -92,7 +85,7 @@ fn parse_command(
     place: Place,
     bytes: &[u8],
     tokens: &[Token],
-) -> Result<Command, Unread>
+) -> Result<Command, Reason>
     requires lexed { HasTokens (record { place = place; bytes = bytes.now }) (map (placed bytes.now) tokens.now) }
     requires text { IsCommandText bytes.now }
     ensures command { IfOk result (λ command. IsCommand names.new (record { place = place; bytes = bytes.now }) (order_of command)) }
@@ -120,7 +113,7 @@ fn not_parsed(
     bytes: &[u8],
     tokens: &[Token],
     fault: ParseFault,
-) -> Unread
+) -> Reason
     requires lexed { HasTokens (record { place = place; bytes = bytes.now }) (map (placed bytes.now) tokens.now) }
     requires token { HasItsToken tokens.now fault }
     ensures { IsNotParsed place bytes.now tokens.now fault result.place result.cause }
@@ -132,15 +125,15 @@ fn not_parsed(
             };
             unexpected(alloc, bytes, token)
         }
-        ParseFault::TooDeep { place } => Unread {
+        ParseFault::TooDeep { place } => Reason {
             place,
             cause: Cause::TooDeep,
         },
-        ParseFault::NamesFull => Unread {
+        ParseFault::NamesFull => Reason {
             place,
             cause: Cause::NamesFull,
         },
-        ParseFault::Memory => Unread {
+        ParseFault::Memory => Reason {
             place,
             cause: Cause::Memory,
         },
@@ -161,7 +154,7 @@ fn token_at(tokens: &[Token], place: Place) -> Option<Token>
 }
 
 /// The refusal of a token, with its bytes.
-fn unexpected(alloc: Global, bytes: &[u8], token: Token) -> Unread
+fn unexpected(alloc: Global, bytes: &[u8], token: Token) -> Reason
     requires range { token.from ≤ token.to }
     requires within { token.to ≤ length bytes.now }
     ensures { IsUnexpectedToken bytes.now token result.place result.cause }
@@ -173,7 +166,7 @@ fn unexpected(alloc: Global, bytes: &[u8], token: Token) -> Unread
         },
         Err(_) => Cause::Memory,
     };
-    Unread {
+    Reason {
         place: token.place,
         cause,
     }

@@ -2,7 +2,7 @@ use Rattle.std.proofs.Common.{ℕ, List, Option, Some, subst}
 use Rattle.lego_grammar.specs.Surface.{bound_of, written}
 use Rattle.lego_session.specs.Binding.{IsFirstUsed, Assumes, AssumeFails}
 use Rattle.lego_session.specs.Steps.{AreNew, IsRead}
-use Rattle.lego_session.proofs.BindAllLemmas.{says_plain, in_use_fails, not_read_fails, not_assumed_fails, binds}
+use Rattle.lego_session.proofs.BindAllLemmas.{says_plain, in_use_fails, not_read_fails, other_read_fault, other_fault, not_assumed_fails, binds}
 use Rattle.lego_session.proofs.binding.bind.Goals as goal
 
 pub returns-in-Some-clause-cause : goal.returns-in-Some-clause-cause
@@ -18,6 +18,16 @@ returns-in-Err-clause-cause c =
     not_read_fails c.args.context.now (bound_of c.args.binding.now) (written c.in-Assume.ty) c.in-Err.fault c.not_read.result.place c.not_read.result.cause
     (subst (λ (ns : List ℕ). AreNew c.args.context.now ns) c.items-names.ensures new) says.0 c.in-Err.ensures c.not_read.ensures
 
+pub not_read-requires : goal.not_read-requires
+not_read-requires c e =
+    let says = says_plain c.args.binding.now.kind c.in-Assume.mark c.in-Assume.ty c.in-Assume.is c.requires.built in
+    other_read_fault c.args.context.now (bound_of c.args.binding.now) (written c.in-Assume.ty) c.in-Err.fault says.1 c.in-Err.ensures e
+
+pub not_assumed-requires : goal.not_assumed-requires
+not_assumed-requires c at e =
+    other_fault c.args.context.now (bound_of c.args.binding.now) c.in-Ok-core_of.ty c.in-Err-assume_names.fault at
+    (subst (λ (ns : List ℕ). AssumeFails c.args.context.now ns c.in-Ok-core_of.ty c.in-Err-assume_names.fault) c.items-names.ensures c.in-Err-assume_names.ensures.cause) e
+
 pub returns-in-Ok-assume_names-clause-ok : goal.returns-in-Ok-assume_names-clause-ok
 returns-in-Ok-assume_names-clause-ok c =
     let new = subst (λ (o : Option ℕ). IsFirstUsed c.args.context.now c.items-names.result.now o) c.in_default-used.is c.in-Ok.ensures in
@@ -27,6 +37,7 @@ returns-in-Ok-assume_names-clause-ok c =
       written = written c.in-Assume.ty;
       says = says.0;
       reads = c.in-Ok-core_of.ensures.0;
+      fits = c.in-Ok-core_of.ensures.2;
     } in
     binds c.args.context.now (bound_of c.args.binding.now) c.in-Ok-core_of.ty c.assume_names.new.context c.len-before.ensures.valid read
     (subst (λ (ns : List ℕ). Assumes c.args.context.now ns c.in-Ok-core_of.ty c.assume_names.new.context) c.items-names.ensures c.in-Ok-assume_names.ensures.ok)
@@ -40,6 +51,7 @@ returns-clause-cause c =
       written = written c.in-Assume.ty;
       says = says.0;
       reads = c.in-Ok-core_of.ensures.0;
+      fits = c.in-Ok-core_of.ensures.2;
     } in
     not_assumed_fails c.args.context.now (bound_of c.args.binding.now) c.in-Ok-core_of.ty c.in-Err-assume_names.fault c.not_assumed.result.place c.not_assumed.result.cause
     c.len-before.ensures.valid read

@@ -20,7 +20,7 @@ returns-in-Err-core_of t c =
     let form = ap (is_arrow c.in-Bind.kind c.in-Bind.mark) (sym c.items.ensures) ∙ sym c.if-not-is_arrow.ensures in
     let shape = arrow_is c.in-Bind.kind c.in-Bind.mark c.in-Bind.names c.in-Bind.domain c.in-Bind.body c.args.ty.now c.in-Bind.is form in
     let domain = subst (λ (s : Surface). ReadsType c.args.context.now (written s) c.in-Ok.domain) c.get.ensures c.in-Ok.ensures.0 in
-    body_not_read c.args.context.now (written c.args.ty.now) (written c.in-Bind.domain) (written c.in-Bind.body) c.in-Ok.domain c.in-Err-core_of.fault shape domain
+    body_not_read c.args.context.now (written c.args.ty.now) (written c.in-Bind.domain) (written c.in-Bind.body) c.in-Ok.domain c.in-Err-core_of.fault shape domain c.in-Ok.ensures.2
     (subst (λ (s : Surface). IsNotRead c.args.context.now (written s) c.in-Err-core_of.fault) c.get-in-Bind.ensures c.in-Err-core_of.ensures)
 
 pub returns-in-Ok-core_of : goal.returns-in-Ok-core_of
@@ -30,7 +30,7 @@ returns-in-Ok-core_of t c =
     let domain = subst (λ (s : Surface). ReadsType c.args.context.now (written s) c.in-Ok.domain) c.get.ensures c.in-Ok.ensures.0 in
     let body = subst (λ (s : Surface). ReadsType c.args.context.now (written s) c.in-Ok-core_of.body) c.get-in-Bind.ensures c.in-Ok-core_of.ensures.0 in
     arrow_reads c.args.context.now (written c.args.ty.now) (written c.in-Bind.domain) (written c.in-Bind.body) c.in-Ok.domain c.in-Ok-core_of.body c.arrow.result shape
-    (domain, c.in-Ok.ensures.1) (body, c.in-Ok-core_of.ensures.1) c.arrow.ensures
+    (domain, c.in-Ok.ensures.1, c.in-Ok.ensures.2) (body, c.in-Ok-core_of.ensures.1, c.in-Ok-core_of.ensures.2) c.arrow.ensures
 
 pub returns-in-Prop : goal.returns-in-Prop
 returns-in-Prop t c = prop_reads c.args.context.now (written c.args.ty.now) c.proposition.result (ap written c.in-Prop.is ∙ written-Prop) c.proposition.ensures

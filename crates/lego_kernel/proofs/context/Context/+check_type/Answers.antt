@@ -1,9 +1,8 @@
-use Rattle.std.proofs.Common.{◌≡◌, List, sym, subst}
-use Rattle.lego_term.specs.Trees.{Core, Pi}
+use Rattle.std.proofs.Common.{subst}
+use Rattle.lego_term.specs.Trees.{Core}
 use Rattle.lego_kernel.specs.Assuming.{IsTypeAlways, IsNoTypeBy}
 use Rattle.lego_kernel.specs.Entries.{laws_entries}
 use Rattle.lego_kernel.specs.Contexts.{IsContext}
-use Rattle.lego_kernel.specs.declared.entry.Entry.{Entry as Item}
 use Rattle.lego_kernel.proofs.AssumeLemmas.{simple_is_type}
 use Rattle.lego_kernel.proofs.TypeFaultLemmas.{of_domain, of_body}
 use Rattle.lego_kernel.proofs.context.Context.+check_type.Goals as goal

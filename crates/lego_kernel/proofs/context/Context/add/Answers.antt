@@ -1,4 +1,4 @@
-use Rattle.std.proofs.Common.{◌≡◌, ℕ, ◌++◌, ◌∷◌, [], List, length, Some, refl, sym, ap, ◌∙◌, subst}
+use Rattle.std.proofs.Common.{◌≡◌, ◌++◌, ◌∷◌, [], List, refl, sym, ◌∙◌, subst}
 use Rattle.lego_kernel.specs.Simple.{IsSimpleOver}
 use Rattle.lego_kernel.specs.Assuming.{IsAdmitted}
 use Rattle.lego_kernel.specs.Entries.{assumption}
@@ -17,4 +17,4 @@ invariant_of-self-2 c =
     let pushed : c.push.new.self.items ≡ es ++ new ∷ [] =
     c.in-Ok-push.ensures.items ∙ cc (c.in_ok-reserve.ensures.items, c.len.ensures, ty) in
     let names = names-push es c.self.inside.names.keys c.insert.new.self.keys new c.args.name c.self.invariant.1 refl admitted.new c.in-Ok.ensures.keys in
-    rw pushed (assume_valid es c.args.name c.args.mark c.args.ty.now c.self.invariant.0 simple admitted.is_type admitted.room, names)
+    rw pushed (assume_valid es c.args.name c.args.mark c.args.ty.now c.self.invariant.0 simple admitted, names)

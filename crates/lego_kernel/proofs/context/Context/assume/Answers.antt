@@ -1,7 +1,6 @@
-use Rattle.std.proofs.Common.{◌≡◌, ◌<◌, ◌≤◌, List, length, None, refl, sym, ap, ◌∙◌, subst, arith}
-use Rattle.lego_kernel.specs.Assuming.{IsTypeAlways, IsAdmitted}
+use Rattle.std.proofs.Common.{◌≡◌, List, length, refl, sym, ap, ◌∙◌, subst, arith}
+use Rattle.lego_kernel.specs.Assuming.{IsAdmitted}
 use Rattle.lego_kernel.specs.Contexts.{IsContext}
-use Rattle.lego_kernel.specs.Entries.{laws_entries}
 use Rattle.lego_kernel.specs.declared.entry.Entry.{Entry as Item}
 use Rattle.lego_kernel.proofs.AssumeLemmas.{simple_is_type}
 use Rattle.lego_kernel.proofs.TypeFaultLemmas.{on_ok}

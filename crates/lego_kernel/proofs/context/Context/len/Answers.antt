@@ -1,6 +1,5 @@
-use Rattle.std.proofs.Common.{List, subst}
+use Rattle.std.proofs.Common.{subst}
 use Rattle.lego_kernel.specs.Contexts.{IsContext}
-use Rattle.lego_kernel.specs.declared.entry.Entry.{Entry as Item}
 use Rattle.lego_kernel.proofs.context.Context.len.Goals as goal
 
 pub returns-clause-valid : goal.returns-clause-valid
