@@ -1,24 +1,16 @@
 -- A difference that a walk comes to, as it stands in the whole terms.
-use Rattle.std.proofs.Common.{sym, ◌∙◌, ◌≡◌, ℕ, ◌+◌, Option, Some, None, refl, ap, subst, arith}
+use Rattle.std.proofs.Common.{sym, ◌∙◌, ◌≡◌, ℕ, ◌+◌, ap, subst, arith}
 use Rattle.lego_term.specs.declared.level.Level.{Level}
 use Rattle.lego_term.specs.Trees.{Core}
-use Rattle.lego_term.specs.Parts.{Branch}
 use Rattle.lego_term.specs.Sequences.{HeadForm}
-use Rattle.lego_term.specs.declared.binder.Binder.{Binder}
 use Rattle.lego_laws.specs.Parallel.{CoreBodies, AreClosed}
 use Rattle.lego_laws.specs.Facing.{Order, Cumulativity, Conversion, order_at, crossed, Faces}
 use Rattle.lego_laws.specs.Comparison.{AreInOrder, same_root}
 use Rattle.lego_laws.proofs.Differing.{difference_excludes_below, difference_excludes_conversion}
 use Rattle.lego_compare.specs.Answers.{RelatedAt, DifferAt, order_under}
 use Rattle.lego_compare.proofs.AskedLemmas.{turned, whole}
+use Rattle.lego_compare.proofs.PartLemmas.{crossed_more}
 use Rattle.lego_compare.specs.Walks.{Differ, d_heads, FormsDiffer, d_here, d_part}
-
-crossed_more : (m n : ℕ) (p : Branch) → crossed m p + n ≡ m + crossed n p
-crossed_more m n p = by_binder p.under refl
-  where
-    by_binder : (o : Option Binder) → p.under ≡ o → crossed m p + n ≡ m + crossed n p
-    by_binder None e = rw e refl
-    by_binder (Some x) e = rw e (omega arith)
 
 module _ (b : CoreBodies) (t u : Core) where
   record Found (w : Order) (l r : Core) (n : ℕ) : Type 0 where

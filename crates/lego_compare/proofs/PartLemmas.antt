@@ -1,6 +1,7 @@
 -- A walk through the parts of two head forms, put together from the walk through one part and that through the rest.
-use Rattle.std.proofs.Common.{◌≡◌, ℕ, zero, suc, ◌+◌, ◌-◌, ◌≤◌, ◌<◌, drop, slice_get, Some, None, List, [], ◌∷◌, refl, ap, ◌∙◌, subst, arith}
+use Rattle.std.proofs.Common.{Option, ◌≡◌, ℕ, zero, suc, ◌+◌, ◌-◌, ◌≤◌, ◌<◌, drop, slice_get, Some, None, List, [], ◌∷◌, refl, ap, ◌∙◌, subst, arith}
 use Rattle.lego_term.specs.Trees.{Core, Pi, Lam, App, Sigma, Pair, Fst, Snd}
+use Rattle.lego_term.specs.declared.binder.Binder.{Binder}
 use Rattle.lego_term.specs.Parts.{Shape, Branch, parts_of, shape_of}
 use Rattle.lego_laws.specs.Parallel.{CoreBodies}
 use Rattle.lego_laws.specs.Counting.{Walked, PartsWalked, next_part, stopped}
@@ -48,6 +49,14 @@ order_of_part r h s i e = order_by_form r h s i e
     order_by_form Same (Snd m) s i e = grind arith
     order_by_form _ _ s i e = cc
 
+-- the binders of a path and of the part that it goes on with
+pub crossed_more : (m n : ℕ) (p : Branch) → crossed m p + n ≡ m + crossed n p
+crossed_more m n p = by_binder p.under refl
+  where
+    by_binder : (o : Option Binder) → p.under ≡ o → crossed m p + n ≡ m + crossed n p
+    by_binder None e = rw e refl
+    by_binder (Some x) e = rw e (omega arith)
+
 module _ (b : CoreBodies) (o : Order) (h k : Core) where
   -- the walk stopped in part i
   module _ (i : ℕ) (s : Shape) (p q : Branch) (e : shape_of h ≡ Some s) (e' : shape_of k ≡ Some s) (x : slice_get (parts_of h) i ≡ Some p) (y : slice_get (parts_of k) i ≡ Some q) where
@@ -59,17 +68,10 @@ module _ (b : CoreBodies) (o : Order) (h k : Core) where
     part_large_right lt (tree d z) = tree (l_part i y d) z
     part_large_right {room} lt (path {u = u} d) = let n : suc (room - 1) ≡ room = omega arith in path (subst (λ z. FormLeads b k z u) n (l_part i y d))
 
-    crossed_sum : (before n : ℕ) → crossed before p + n ≡ before + crossed n p
-    crossed_sum before n = by_binder p.under refl
-      where
-        by_binder : (w : _) → p.under ≡ w → crossed before p + n ≡ before + crossed n p
-        by_binder None z = rw z refl
-        by_binder (Some v) z = rw z (omega arith)
-
     pub part_stops : (limit room before : ℕ) (why : Stop) → 0 < room → StopsBy (Differ b (order_at o s i) p.term q.term) (Walked b p.term q.term) (Leads b p.term) (Leads b q.term) limit (room - 1) (crossed before p) why → (ps qs : List Branch) → StopsBy (FormsDiffer b o h k) (PartsWalked b (p ∷ ps) (q ∷ qs)) (FormLeads b h) (FormLeads b k) limit room before why
     part_stops limit room before (stop.Differ l r deeper) lt w ps qs =
         let sum = w.sum in
-        let more = crossed_sum before w.within in
+        let more = crossed_more before w.within p in
         record { within = crossed w.within p; sum = sum ∙ more; path = d_part i e e' x y w.path }
     part_stops limit room before stop.Budget lt w ps qs =
         let over = w.over in
