@@ -1,3 +1,4 @@
+use lego_compare::CompareFault;
 use lego_level::GraphFault;
 use lego_reduce::ReduceFault;
 use lego_term::TermFault;
@@ -12,6 +13,8 @@ pub enum BenchFault {
     Term(TermFault),
     /// A term could not be reduced.
     Reduce(ReduceFault),
+    /// Terms were not related that convert.
+    Unrelated,
     /// Constraints were refused that can be satisfied.
     Refused,
     /// The counts could not be written.
@@ -29,6 +32,12 @@ impl From<TermFault> for BenchFault {
 impl From<ReduceFault> for BenchFault {
     fn from(fault: ReduceFault) -> BenchFault {
         BenchFault::Reduce(fault)
+    }
+}
+
+impl From<CompareFault> for BenchFault {
+    fn from(_: CompareFault) -> BenchFault {
+        BenchFault::Unrelated
     }
 }
 

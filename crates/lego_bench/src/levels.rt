@@ -18,6 +18,9 @@ const CYCLES: u32 = 1000;
 
 const MAX_CYCLE: u32 = 100;
 
+/// How often a whole chain is closed to a cycle.
+const CLOSINGS: u32 = 100;
+
 /// How often half of a chain is taken away.
 const ROUNDS: u32 = 10;
 
@@ -51,6 +54,8 @@ pub fn run_levels(alloc: Global, name: &str, size: u32) -> Result<Held, BenchFau
         "layers" => layers(alloc, size),
         "cycles" => cycles(alloc, size),
         "again" => again(alloc, size),
+        "ring" => ring(alloc, size),
+        "both" => both(alloc, size),
         _ => Err(BenchFault::Usage),
     }
 }
@@ -179,6 +184,44 @@ fn again(alloc: Global, size: u32) -> Result<Held, BenchFault>
         let half = graph.len() / 2;
         graph.cut_to(half);
         add_rest(&mut graph, size)?;
+    }
+    Ok(Held {
+        constraints: graph.len() as u64,
+        value: 0,
+        refused: 0,
+    })
+}
+
+/// A chain of so many constraints, which one more closes to a cycle through all its levels, some
+/// times.
+fn ring(alloc: Global, size: u32) -> Result<Held, BenchFault>
+    requires { size ≤ 10000000 }
+{
+    let mut graph = chain(alloc, size, Order::FirstToLast)?;
+    let mut refused = 0u64;
+    for _ in 0..CLOSINGS {
+        let outcome = graph.extend(&[at_most(size, 0, 0)]);
+        if matches!(outcome, Err(GraphFault::Cycle(_))) {
+            refused = refused.saturating_add(1);
+        }
+    }
+    Ok(Held {
+        constraints: graph.len() as u64,
+        value: 0,
+        refused,
+    })
+}
+
+/// Levels each of which is at most the next one, which is at most it.
+fn both(alloc: Global, size: u32) -> Result<Held, BenchFault>
+    requires { size ≤ 10000000 }
+{
+    let mut graph = Graph::new(alloc);
+    for number in 0..size {
+        graph.extend(&[at_most(number, 0, number + 1)])?;
+    }
+    for number in 0..size {
+        graph.extend(&[at_most(number + 1, 0, number)])?;
     }
     Ok(Held {
         constraints: graph.len() as u64,

@@ -1,24 +1,24 @@
 -- Head forms whose roots are alike, or both universes.
 use Rattle.std.proofs.Common.{◌≡◌, ℕ, zero, suc, drop, Some, None, List, [], ◌∷◌, ◌++◌, refl, sym, ap, ◌∙◌, subst, arith}
 use Rattle.std.proofs.lemmas.List.{append-nil, append_assoc}
-use Rattle.lego_term.specs.Trees.{Core, Var, Const, Prop, Univ, Pi, Lam, App, Sigma, Pair, Fst, Snd}
+use Rattle.lego_term.specs.Trees.{Core, Var, Const, Prop, Univ, Pi, Lam, App, Sigma, Pair, Fst, Snd, Let}
 use Rattle.lego_term.specs.Parts.{Shape, Branch, parts_of, shape_of}
 use Rattle.lego_compare.specs.declared.relation.Relation.{Relation}
 use Rattle.lego_compare.specs.declared.relation.Relation.TheVariants.{Below, Same}
 use Rattle.lego_compare.specs.declared.roots.Roots.TheVariants.{Alike}
-use Rattle.lego_compare.specs.Codes.{roots_of}
+use Rattle.lego_compare.specs.private.Codes.{roots_of}
 use Rattle.lego_laws.specs.Parallel.{CoreBodies}
 use Rattle.lego_term.specs.Levels.{LevelPair}
 use Rattle.lego_laws.specs.Comparison.{Compared, FormsCompared, f_var, f_const, f_prop, f_prop_univ, f_pi, f_lam, f_app, f_sigma, f_pair, f_fst, f_snd}
-use Rattle.lego_compare.specs.Codes.{order_of, relation_at}
-use Rattle.lego_compare.specs.Walks.{PartsCompared, c_none, c_next, FormsWalk, PartsWalk}
+use Rattle.lego_compare.specs.private.Codes.{order_of, relation_at}
+use Rattle.lego_compare.specs.private.Walks.{PartsCompared, c_none, c_next, FormsWalk, PartsWalk}
 use Rattle.std.proofs.Common.{Result, Ok, Err, length, Option}
-use Rattle.lego_term.specs.Parts.{APi, ALam, AnApp, ASigma, APair, AFst, ASnd}
+use Rattle.lego_term.specs.Parts.{APi, ALam, AnApp, ASigma, APair, AFst, ASnd, ALet}
 use Rattle.lego_base.specs.declared.place.Place.{Place}
 use Rattle.lego_level.specs.declared.constraint.Constraint.{Constraint}
 use Rattle.lego_level.specs.Graphs.{pairs_of}
 use Rattle.lego_compare.specs.declared.stop.Stop.{Stop}
-use Rattle.lego_compare.specs.Codes.{alike_if_equal}
+use Rattle.lego_compare.specs.private.Codes.{alike_if_equal}
 
 pub alike_shapes : (r : Relation) (h k : Core) → roots_of r h k ≡ Alike → shape_of h ≡ shape_of k
 alike_shapes r (Var i) (Var j) e = refl
@@ -100,6 +100,7 @@ arity t (Some ASigma) = 2
 arity t (Some APair) = 4
 arity t (Some AFst) = 1
 arity t (Some ASnd) = 1
+arity t (Some ALet) = 2
 
 part_count : (t : Core) → length (parts_of t) ≡ arity t (shape_of t)
 part_count (Var i) = refl
@@ -113,6 +114,7 @@ part_count (Sigma x a c) = refl
 part_count (Pair x a c m n) = refl
 part_count (Fst m) = refl
 part_count (Snd m) = refl
+part_count (Let x m n) = refl
 
 arity_alone : (t u : Core) (o : Option Shape) → arity t o ≡ arity u o
 arity_alone t u None = refl
@@ -123,6 +125,7 @@ arity_alone t u (Some ASigma) = refl
 arity_alone t u (Some APair) = refl
 arity_alone t u (Some AFst) = refl
 arity_alone t u (Some ASnd) = refl
+arity_alone t u (Some ALet) = refl
 
 pub past_end : {X Y : Type 0} (xs : List X) (ys : List Y) (i : ℕ) → length xs ≡ length ys → drop i xs ≡ [] → drop i ys ≡ []
 past_end [] [] zero e d = refl

@@ -9,11 +9,10 @@ use Rattle.lego_term.specs.Trees.{Core, Univ}
 use Rattle.lego_term.specs.Parts.{Shape, APi, ALam, AnApp, ASigma, APair, AFst, ASnd}
 use Rattle.lego_term.specs.Sequences.{HeadForm}
 use Rattle.lego_laws.specs.Parallel.{CoreBodies}
-use Rattle.lego_laws.specs.Facing.{Order, Cumulativity, Conversion, order_at, Faces, Asks}
+use Rattle.lego_laws.specs.Facing.{Order, Cumulativity, Conversion, order_at, Faces, Asks, order_under, IsAsked}
 use Rattle.lego_laws.specs.Comparison.{asked, Compared, m_equal, m_heads, FormsCompared, f_var, f_const, f_prop, f_prop_univ, f_univ, f_pi, f_lam, f_app, f_sigma, f_pair, f_fst, f_snd}
 use Rattle.lego_level.specs.declared.constraint.Constraint.{Constraint}
 use Rattle.lego_level.specs.Graphs.{pairs_of}
-use Rattle.lego_compare.specs.Answers.{order_under, IsAsked}
 
 -- the order of a part, under the order of the whole
 pub turned : (w f : Order) (s : Shape) (i : ℕ) → order_under w (order_at f s i) ≡ order_at (order_under w f) s i
@@ -58,7 +57,7 @@ module _ (w : Order) (b : CoreBodies) (t u : Core) where
     pub asked_of_terms : {o : Order} {x y : Core} {k : List LevelPair} (f : Order) (n : ℕ) → order_under w f ≡ o
         → ((h j : Core) → HeadForm b x h → HeadForm b y j → Faces b t u f n h j) → Compared b o x y k → AllAsked k
     asked_of_terms f n e front (m_equal q) = tt
-    asked_of_terms f n e front (m_heads {t' = h} {u' = j} p q c) = asked_of_forms f n e (front h j p q) c
+    asked_of_terms f n e front (m_heads {t' = h} {u' = j} _ p q c) = asked_of_forms f n e (front h j p q) c
 
     asked_of_forms : {o : Order} {h j : Core} {k : List LevelPair} (f : Order) (n : ℕ) → order_under w f ≡ o
         → Faces b t u f n h j → FormsCompared b o h j k → AllAsked k

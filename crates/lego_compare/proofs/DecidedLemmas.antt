@@ -6,14 +6,14 @@ use Rattle.lego_term.specs.Levels.{LevelPair}
 use Rattle.lego_term.specs.Trees.{Core, Equal}
 use Rattle.lego_laws.specs.Parallel.{CoreBodies, AreClosed}
 use Rattle.lego_laws.specs.Counting.{Walked}
-use Rattle.lego_laws.specs.Facing.{Order, Cumulativity, root}
+use Rattle.lego_laws.specs.Facing.{Order, Cumulativity, root, IsAsked}
 use Rattle.lego_laws.specs.Comparison.{Compared, m_equal}
 use Rattle.lego_laws.proofs.Comparing.{comparison_is_exact, gathered}
 use Rattle.lego_laws.proofs.Satisfying.{InOrder}
 use Rattle.lego_level.specs.declared.constraint.Constraint.{Constraint}
 use Rattle.lego_level.specs.Graphs.{pairs_of}
-use Rattle.lego_compare.specs.Answers.{IsDecidedBy, IsAsked, IsLevelIn}
-use Rattle.lego_compare.specs.Walks.{Passed}
+use Rattle.lego_compare.specs.Answers.{IsDecidedBy, IsLevelIn}
+use Rattle.lego_compare.specs.private.Walks.{Passed}
 use Rattle.lego_compare.proofs.AskedLemmas.{asked_of_terms, all_of_pairs, whole}
 use Rattle.lego_compare.proofs.LevelLemmas.{asked_levels}
 
@@ -30,6 +30,7 @@ module _ (b : CoreBodies) (closed : AreClosed b) (o : Order) (t u : Core) (place
   decide found c p =
       let asked = all_of_pairs (IsAsked o b t u) found (asked_of_terms o b t u Cumulativity 0 (whole o) (λ h k x y. root x y) c) in
       record {
+        walk = c;
         exact = comparison_is_exact b closed o t u (pairs_of found) c;
         zero = gathered (λ l. 0) c (all_zero (pairs_of found));
         asked = asked;

@@ -4,13 +4,13 @@ use Rattle.lego_term.specs.declared.level.Level.{Level}
 use Rattle.lego_term.specs.Trees.{Core}
 use Rattle.lego_term.specs.Sequences.{HeadForm}
 use Rattle.lego_laws.specs.Parallel.{CoreBodies, AreClosed}
-use Rattle.lego_laws.specs.Facing.{Order, Cumulativity, Conversion, order_at, crossed, Faces}
+use Rattle.lego_laws.specs.Facing.{Order, Cumulativity, Conversion, order_at, crossed, Faces, order_under}
 use Rattle.lego_laws.specs.Comparison.{AreInOrder, same_root}
 use Rattle.lego_laws.proofs.Differing.{difference_excludes_below, difference_excludes_conversion}
-use Rattle.lego_compare.specs.Answers.{RelatedAt, DifferAt, order_under}
+use Rattle.lego_compare.specs.Answers.{RelatedAt, DifferAt}
 use Rattle.lego_compare.proofs.AskedLemmas.{turned, whole}
 use Rattle.lego_compare.proofs.PartLemmas.{crossed_more}
-use Rattle.lego_compare.specs.Walks.{Differ, d_heads, FormsDiffer, d_here, d_part}
+use Rattle.lego_compare.specs.private.Walks.{Differ, d_heads, FormsDiffer, d_here, d_part}
 
 module _ (b : CoreBodies) (t u : Core) where
   record Found (w : Order) (l r : Core) (n : ℕ) : Type 0 where

@@ -15,8 +15,8 @@ use Rattle.lego_laws.specs.Comparison.{FormsCompared, f_univ, asked}
 use Rattle.lego_compare.specs.declared.relation.Relation.{Relation}
 use Rattle.lego_compare.specs.declared.relation.Relation.TheVariants.{Below, Same}
 use Rattle.lego_compare.specs.declared.roots.Roots.TheVariants.{Universes}
-use Rattle.lego_compare.specs.Codes.{order_of, roots_of, alike_if_equal, asked_at, term_of}
-use Rattle.lego_compare.specs.Walks.{c_none, FormsWalk, PartsWalk}
+use Rattle.lego_compare.specs.private.Codes.{order_of, roots_of, alike_if_equal, asked_at, term_of}
+use Rattle.lego_compare.specs.private.Walks.{c_none, FormsWalk, PartsWalk}
 use Rattle.lego_compare.proofs.PartLemmas.{drop_none}
 use Rattle.lego_compare.proofs.AlikeLemmas.{past_end, same_count}
 

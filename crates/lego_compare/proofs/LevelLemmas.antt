@@ -3,14 +3,14 @@ use Rattle.std.proofs.Common.{◌≡◌, ℕ, zero, suc, Some, List, [], ◌∷�
 use Rattle.std.specs.Prelude.{Contains}
 use Rattle.std.proofs.lemmas.List.Elements.{Contains-append_left, Contains-append_right}
 use Rattle.lego_term.specs.declared.level.Level.{Level}
-use Rattle.lego_term.specs.Trees.{Core, Var, Const, Prop, Univ, Pi, Lam, App, Sigma, Pair, Fst, Snd, levels_of}
+use Rattle.lego_term.specs.Trees.{Core, Var, Const, Prop, Univ, Pi, Lam, App, Sigma, Pair, Fst, Snd, Let, levels_of}
 use Rattle.lego_term.specs.Parts.{Branch, parts_of}
 use Rattle.lego_term.specs.Sequences.{HeadForm}
 use Rattle.lego_laws.specs.Parallel.{CoreBodies}
-use Rattle.lego_laws.specs.Facing.{Order, Faces, Asks}
+use Rattle.lego_laws.specs.Facing.{Order, Faces, Asks, IsAsked}
 use Rattle.lego_laws.proofs.HeadSteps.{head_steps}
 use Rattle.lego_laws.proofs.LevelsKept.{Levels, levels_run}
-use Rattle.lego_compare.specs.Answers.{IsAsked, IsLevelIn, of_left, of_right, of_body}
+use Rattle.lego_compare.specs.Answers.{IsLevelIn, of_left, of_right, of_body}
 
 alone : (l : Level) → Contains (l ∷ []) l
 alone l = (0, omega arith, refl)
@@ -42,6 +42,7 @@ module _ (P : Level → Type 0) where
       )
   listed (Fst m) h = listed m h
   listed (Snd m) h = listed m h
+  listed (Let x a r) h = (listed a (front (levels_of a) (levels_of r) h), listed r (back (levels_of a) (levels_of r) h))
 
   of_part : (a : Core) (q : Branch) → a ≡ q.term → Levels P a → Levels P q.term
   of_part a q e h = subst (Levels P) e h
@@ -61,6 +62,8 @@ module _ (P : Level → Type 0) where
   part (Pair x a r m n) (suc (suc (suc zero))) q e h = of_part n q (cc) h.3
   part (Fst m) zero q e h = of_part m q (cc) h
   part (Snd m) zero q e h = of_part m q (cc) h
+  part (Let x a r) zero q e h = of_part a q (cc) h.0
+  part (Let x a r) (suc zero) q e h = of_part r q (cc) h.1
   part _ _ q e h = cc
 
   module _ (b : CoreBodies) (of_bodies : (k : ℕ) (body : Core) → b k ≡ Some body → Levels P body) where

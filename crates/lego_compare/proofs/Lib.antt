@@ -5,6 +5,7 @@ pub mod CauseLemmas
 pub mod DecidedLemmas
 pub mod DifferLemmas
 pub mod EndLemmas
+pub mod HeadLemmas
 pub mod LevelLemmas
 pub mod PartLemmas
 pub mod ReachLemmas

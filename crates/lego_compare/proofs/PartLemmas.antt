@@ -1,6 +1,6 @@
 -- A walk through the parts of two head forms, put together from the walk through one part and that through the rest.
 use Rattle.std.proofs.Common.{Option, ◌≡◌, ℕ, zero, suc, ◌+◌, ◌-◌, ◌≤◌, ◌<◌, drop, slice_get, Some, None, List, [], ◌∷◌, refl, ap, ◌∙◌, subst, arith}
-use Rattle.lego_term.specs.Trees.{Core, Pi, Lam, App, Sigma, Pair, Fst, Snd}
+use Rattle.lego_term.specs.Trees.{Core, Pi, Lam, App, Sigma, Pair, Fst, Snd, Let}
 use Rattle.lego_term.specs.declared.binder.Binder.{Binder}
 use Rattle.lego_term.specs.Parts.{Shape, Branch, parts_of, shape_of}
 use Rattle.lego_laws.specs.Parallel.{CoreBodies}
@@ -11,8 +11,9 @@ use Rattle.lego_compare.specs.declared.relation.Relation.TheVariants.{Below, Sam
 use Rattle.lego_compare.specs.declared.stop.Stop.{Stop}
 use Rattle.lego_compare.specs.declared.stop.Stop.TheVariants as stop
 use Rattle.lego_compare.specs.declared.stop.Side.TheVariants.{Left, Right}
-use Rattle.lego_compare.specs.Codes.{order_of, relation_at}
-use Rattle.lego_compare.specs.Walks.{Differ, FormsDiffer, d_part, Leads, FormLeads, l_part, Large, tree, path, StopsBy}
+use Rattle.lego_compare.specs.private.Codes.{order_of, relation_at}
+use Rattle.lego_compare.specs.Paths.{Leads, FormLeads, l_part, Large, tree, path}
+use Rattle.lego_compare.specs.private.Walks.{Differ, FormsDiffer, d_part, StopsBy}
 
 -- the list from a place on, where there is an item and where there is none
 pub drop_some : {X : Type 0} (xs : List X) (i : ℕ) (x : X) → slice_get xs i ≡ Some x → drop i xs ≡ x ∷ drop (suc i) xs
@@ -47,6 +48,8 @@ order_of_part r h s i e = order_by_form r h s i e
     order_by_form Same (Fst m) s i e = grind arith
     order_by_form Below (Snd m) s i e = grind arith
     order_by_form Same (Snd m) s i e = grind arith
+    order_by_form Below (Let x m n) s i e = grind arith
+    order_by_form Same (Let x m n) s i e = grind arith
     order_by_form _ _ s i e = cc
 
 -- the binders of a path and of the part that it goes on with

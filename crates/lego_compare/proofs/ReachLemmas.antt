@@ -1,6 +1,6 @@
 -- Where a term's normalisation sequence ends, it passes each term to which a path through the term leads.
 use Rattle.std.proofs.Common.{◌≡◌, ℕ, zero, suc, ◌+◌, ◌-◌, ◌≤◌, ◌<◌, Option, Some, None, List, [], ◌∷◌, slice_get, ⊎_elim, refl, sym, ◌∙◌, subst, arith}
-use Rattle.lego_term.specs.Trees.{Core, Var, Const, Prop, Univ, Pi, Lam, App, Sigma, Pair, Fst, Snd, depth}
+use Rattle.lego_term.specs.Trees.{Core, Var, Const, Prop, Univ, Pi, Lam, App, Sigma, Pair, Fst, Snd, Let, depth}
 use Rattle.lego_term.specs.Parts.{Branch, plain_part, bound_part, parts_of, Subtree, whole, part, IsTooLarge, subtree, IsTooLargeOnTheWay}
 use Rattle.lego_term.specs.Parts as parts
 use Rattle.lego_term.specs.declared.binder.Binder.{Binder}
@@ -15,7 +15,7 @@ use Rattle.lego_laws.proofs.Counted.{head_after}
 use Rattle.lego_laws.proofs.Reaching.{parts_are_reached}
 use Rattle.lego_reduce.proofs.SequenceLemmas.{after-plus}
 use Rattle.lego_compare.specs.Answers.{ReachesTooLarge}
-use Rattle.lego_compare.specs.Walks.{Leads, l_steps, l_heads, FormLeads, l_part, Large, tree, path}
+use Rattle.lego_compare.specs.Paths.{Leads, l_steps, l_heads, FormLeads, l_part, Large, tree, path}
 
 part_deep : (t : Core) (i : ℕ) (p : Branch) → slice_get (parts_of t) i ≡ Some p → suc (depth p.term) ≤ depth t
 part_deep (Pi x a r) zero p e = let s : a ≡ p.term = cc in rw (← s) (omega arith)
@@ -32,6 +32,8 @@ part_deep (Pair x a r m n) (suc (suc zero)) p e = let s : m ≡ p.term = cc in r
 part_deep (Pair x a r m n) (suc (suc (suc zero))) p e = let s : n ≡ p.term = cc in rw (← s) (omega arith)
 part_deep (Fst m) zero p e = let s : m ≡ p.term = cc in rw (← s) (omega arith)
 part_deep (Snd m) zero p e = let s : m ≡ p.term = cc in rw (← s) (omega arith)
+part_deep (Let x a r) zero p e = let s : a ≡ p.term = cc in rw (← s) (omega arith)
+part_deep (Let x a r) (suc zero) p e = let s : r ≡ p.term = cc in rw (← s) (omega arith)
 part_deep _ _ p e = cc
 
 module _ (b : CoreBodies) where
@@ -133,6 +135,7 @@ module _ (b : CoreBodies) where
   parts_end (Const k) j e p h = no_parts j
   parts_end Prop j e p h = no_parts j
   parts_end (Univ l) j e p h = no_parts j
+  parts_end (Let x m n) j e p h = cc
 
   -- what the part comes to, the parts together come to
   record Placed (ps : List Branch) (m i : ℕ) (p : Branch) (u : Core) : Type 0 where
@@ -228,6 +231,7 @@ some_depth (Sigma x a r) = omega arith
 some_depth (Pair x a r m n) = omega arith
 some_depth (Fst m) = omega arith
 some_depth (Snd m) = omega arith
+some_depth (Let x m n) = omega arith
 
 pub reaches_large : (b : CoreBodies) (t e : Core) (n limit : ℕ) {nodes levels : ℕ} → Ends (normal_step b) t n e → n ≤ limit → Large (Leads b t) 2001 nodes levels → ReachesTooLarge b limit nodes levels t
 reaches_large b t e n limit h le (tree d o) =

@@ -4,7 +4,7 @@ use Rattle.std.proofs.lemmas.List.{map-append, append_assoc}
 use Rattle.std.proofs.lemmas.List.Elements.{All-append}
 use Rattle.lego_base.specs.declared.place.Place.{Place}
 use Rattle.lego_level.specs.declared.constraint.Constraint.{Constraint}
-use Rattle.lego_term.specs.Trees.{Core, Pi, Lam, App, Sigma, Pair, Fst, Snd}
+use Rattle.lego_term.specs.Trees.{Core, Pi, Lam, App, Sigma, Pair, Fst, Snd, Let}
 use Rattle.lego_term.specs.Parts.{Shape, Branch, plain_part, bound_part, parts_of, shape_of}
 use Rattle.lego_laws.specs.Parallel.{CoreBodies}
 use Rattle.lego_laws.specs.Counting.{Walked, PartsWalked, next_part}
@@ -13,8 +13,9 @@ use Rattle.lego_level.specs.Graphs.{pair_of, pairs_of}
 use Rattle.lego_laws.specs.Facing.{order_at, crossed}
 use Rattle.lego_compare.specs.declared.relation.Relation.{Relation}
 use Rattle.lego_compare.specs.declared.stop.Stop.{Stop}
-use Rattle.lego_compare.specs.Codes.{order_of, relation_at, binds, term_of}
-use Rattle.lego_compare.specs.Walks.{Differ, Leads, StopsBy, PartsWalk, PartsCompared, c_next, Passed}
+use Rattle.lego_compare.specs.private.Codes.{order_of, relation_at, binds, term_of}
+use Rattle.lego_compare.specs.Paths.{Leads}
+use Rattle.lego_compare.specs.private.Walks.{Differ, StopsBy, PartsWalk, PartsCompared, c_next, Passed}
 use Rattle.lego_compare.proofs.PartLemmas.{drop_some, part_stops, rest_stops, order_of_part}
 
 pub record PartIs (t : Core) (i : ℕ) (x : Core) : Type 0 where
@@ -37,6 +38,7 @@ shape_by_part (Sigma x a c) i p e = (_, refl)
 shape_by_part (Pair x a c m n) i p e = (_, refl)
 shape_by_part (Fst m) i p e = (_, refl)
 shape_by_part (Snd m) i p e = (_, refl)
+shape_by_part (Let x a c) i p e = (_, refl)
 shape_by_part _ i p e = cc
 
 crossed_by : (before : ℕ) (o : Branch) (p : Branch) → o ≡ p → crossed before o ≡ crossed before p
@@ -59,6 +61,8 @@ binds_crossed (Pair x a c m n) (suc zero) p before e = suc_of before ∙ crossed
 binds_crossed (Pair x a c m n) (suc (suc zero)) p before e = crossed_by before (plain_part m) p (cc)
 binds_crossed (Pair x a c m n) (suc (suc (suc zero))) p before e = crossed_by before (plain_part n) p (cc)
 binds_crossed (Fst m) zero p before e = crossed_by before (plain_part m) p (cc)
+binds_crossed (Let x a c) zero p before e = crossed_by before (plain_part a) p (cc)
+binds_crossed (Let x a c) (suc zero) p before e = suc_of before ∙ crossed_by before (bound_part x c) p (cc)
 binds_crossed (Snd m) zero p before e = crossed_by before (plain_part m) p (cc)
 binds_crossed _ _ p before e = cc
 

@@ -16,10 +16,11 @@ use Rattle.lego_reduce.specs.Reduction.{Reduces}
 use Rattle.lego_compare.specs.declared.stop.Stop.{Stop}
 use Rattle.lego_compare.specs.declared.stop.Stop.TheVariants as stop
 use Rattle.lego_compare.specs.declared.stop.Side.TheVariants.{Left, Right}
-use Rattle.lego_compare.specs.Codes.{stop_on}
-use Rattle.lego_compare.specs.Walks.{Differ, d_heads, FormsDiffer, Leads, l_steps, l_heads, FormLeads, Large, tree, path, Passed, StopsBy, Heads}
+use Rattle.lego_compare.specs.private.Codes.{stop_on}
+use Rattle.lego_compare.specs.Paths.{Leads, l_steps, l_heads, FormLeads, Large, tree, path}
+use Rattle.lego_compare.specs.private.Walks.{Differ, d_heads, FormsDiffer, Passed, StopsBy, Heads}
 
-module _ (b : CoreBodies) (o : Order) (t u : Core) where
+module _ (b : CoreBodies) (o : Order) (t u : Core) (differ : Equal t u → ⊥) where
   abbrev Stops : (limit room crossed : ℕ) → Stop → Type 0
   Stops limit room crossed why = StopsBy (Differ b o t u) (Walked b t u) (Leads b t) (Leads b u) limit room crossed why
 
@@ -29,7 +30,7 @@ module _ (b : CoreBodies) (o : Order) (t u : Core) where
 
   -- the head sequence of the left side stopped the walk
   left_fault : (limit room crossed : ℕ) (fault : ReduceFault) → Reduces (head_step b) t limit (Err fault) → Stops limit room crossed (stop_on Left fault)
-  left_fault limit room crossed reduce.Budget h = record { left = suc limit; right = 0; walked = on_the_way (suc limit) 0 h.1 refl; over = omega arith }
+  left_fault limit room crossed reduce.Budget h = record { left = suc limit; right = 0; walked = on_the_way (suc limit) 0 differ h.1 refl; over = omega arith }
   left_fault limit room crossed (reduce.TooLarge nodes levels) h = tree (l_steps h.0 h.3) h.4
   left_fault limit room crossed reduce.Memory h = tt
 
@@ -38,7 +39,7 @@ module _ (b : CoreBodies) (o : Order) (t u : Core) where
 
   -- the head sequence of the right side stopped it, behind the left one
   right_fault : (limit room crossed i : ℕ) (t' : Core) (fault : ReduceFault) → Ends (head_step b) t i t' → i ≤ limit → Reduces (head_step b) u (limit - i) (Err fault) → Stops limit room crossed (stop_on Right fault)
-  right_fault limit room crossed i t' reduce.Budget e le h = record { left = i; right = suc (limit - i); walked = on_the_way i (suc (limit - i)) e.reaches h.1; over = omega arith }
+  right_fault limit room crossed i t' reduce.Budget e le h = record { left = i; right = suc (limit - i); walked = on_the_way i (suc (limit - i)) differ e.reaches h.1; over = omega arith }
   right_fault limit room crossed i t' (reduce.TooLarge nodes levels) e le h = tree (l_steps h.0 h.3) h.4
   right_fault limit room crossed i t' reduce.Memory e le h = tt
 
@@ -59,7 +60,7 @@ module _ (b : CoreBodies) (o : Order) (t u : Core) where
     inner_stops limit room crossed (stop.Differ h k deeper) le s = record { within = s.within; sum = s.sum; path = d_heads (i, left) (j, right) s.path }
     inner_stops limit room crossed stop.Budget le s =
         let lt = s.over in
-        record { left = i + s.left; right = j + s.right; walked = through_parts left right s.walked; over = omega arith }
+        record { left = i + s.left; right = j + s.right; walked = through_parts differ left right s.walked; over = omega arith }
     inner_stops limit room crossed (stop.TooLarge Left nodes levels) le s = large_left s
     inner_stops limit room crossed (stop.TooLarge Right nodes levels) le s = large_right s
     inner_stops limit room crossed stop.Memory le s = tt
@@ -72,16 +73,17 @@ module _ (b : CoreBodies) (o : Order) (t u : Core) where
         record {
           more = s.more;
           added = s.added;
-          compared = m_heads (i, left) (j, right) s.compared;
+          compared = m_heads differ (i, left) (j, right) s.compared;
           left = i + s.left;
           right = j + s.right;
-          walked = through_parts left right s.walked;
+          walked = through_parts differ left right s.walked;
           sum = omega arith;
           within = omega arith;
           placed = s.placed;
         }
 
-  -- equal terms
+-- equal terms
+module _ (b : CoreBodies) (o : Order) (t u : Core) where
   pub equal_passes : (limit : ℕ) (place : Place) (old : List Constraint) → old ≡ old ++ [] → Equal t u → Passed (Walked b t u) (Compared b o t u) limit place t u b old old 0
   equal_passes limit place old nil e =
       record {

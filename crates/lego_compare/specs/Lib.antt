@@ -1,4 +1,3 @@
 pub mod Answers
-pub mod Causes
-pub mod Codes
-pub mod Walks
+pub mod Paths
+pub mod private

@@ -12,6 +12,3 @@ mod walk;
 
 pub use compare::{below, same};
 pub use fault::CompareFault;
-
-#[cfg(test)]
-mod tests;

@@ -1,6 +1,6 @@
 //! How the parts of two head forms are to be related.
 ghost use Rattle.std.specs.Prelude.{◌≡◌};
-ghost use Rattle.lego_compare.specs.Codes.{relation_at as relation_of_part};
+ghost use Rattle.lego_compare.specs.private.Codes.{relation_at as relation_of_part};
 
 use lego_term::{Node, Term};
 

@@ -1,6 +1,6 @@
 //! The roots of two head forms.
 ghost use Rattle.std.specs.Prelude.{◌≡◌, if◌then◌else◌};
-ghost use Rattle.lego_compare.specs.Codes.{roots_of};
+ghost use Rattle.lego_compare.specs.private.Codes.{roots_of};
 ghost use Rattle.lego_compare.specs.declared.roots.Roots.TheVariants.{Alike, Apart};
 
 use crate::relation::Relation;

@@ -1,13 +1,14 @@
 //! The walk through the head forms of two terms, and then through their parts, in the order of
 //! the normalisation sequence.
-ghost use Rattle.std.specs.Prelude.{◌≡◌, ◌+◌, ◌-◌, ◌≤◌, ◌<◌, ◌++◌, true, IfOk, if◌then◌else◌};
+ghost use Rattle.std.specs.Prelude.{◌≡◌, ◌+◌, ◌-◌, ◌≤◌, ◌<◌, ◌++◌, true, IfOk};
 ghost use Rattle.lego_term.specs.Trees.{Equal, loose};
 ghost use Rattle.lego_term.specs.Parts.{shape_of};
 ghost use Rattle.lego_term.specs.BodyMap.{bodies_in, AreClosed};
-ghost use Rattle.lego_compare.specs.Codes.{asked_at, stop_on, relation_at as relation_of_part, binds as has_binder};
-ghost use Rattle.lego_compare.specs.Walks.{Heads, Walks, FormsWalk, PartsWalk, IsApart};
+ghost use Rattle.lego_laws.specs.HeadForms.{IsHeadForm};
+ghost use Rattle.lego_compare.specs.private.Codes.{asked_at, stop_on, position_inside};
+ghost use Rattle.lego_compare.specs.private.Walks.{Heads, Walks, FormsWalk, PartsWalk, IsApart};
 
-use crate::parts::{binds, part_at};
+use crate::parts::{binds, is_at_head, part_at};
 use crate::relation::{Relation, relation_at};
 use crate::roots::{Roots, compare_roots};
 use crate::stop::{Side, Stop};
@@ -34,9 +35,10 @@ pub(crate) struct Position {
     pub(crate) room: u32,
     /// The number of binders crossed.
     pub(crate) deeper: u32,
-    /// Whether the terms here, or of two head forms the parts that are left, are known to
-    /// differ, so that the last of these parts need not be asked whether it is equal.
-    pub(crate) apart: bool,
+    /// The number of steps that may be made from here on, on both sides together.
+    pub(crate) limit: u64,
+    /// Whether the terms here are known to be head forms.
+    pub(crate) are_head_forms: bool,
 }
 
 /// Walks through two terms, and gathers the constraints under which they are related; gives the
@@ -46,22 +48,20 @@ fn part(
     setting: &Setting<'_>,
     a: &Term,
     b: &Term,
-    is_equal: bool,
     at: Position,
-    limit: u64,
     found: &mut Vec<Constraint>,
 ) -> Result<u64, Stop>
     requires left { loose a.now + at.room ≤ 65537 }
     requires right { loose b.now + at.room ≤ 65537 }
     requires path { at.room + at.deeper ≤ 2001 }
     requires closed { AreClosed setting.now.bodies.now }
-    requires equal { is_equal ≡ true → Equal a.now b.now }
-    ensures { Walks (bodies_in setting.now.bodies.now) at.relation a.now b.now limit at.room at.deeper setting.now.place found.old.items found.new.items result }
+    requires heads { at.are_head_forms ≡ true → IsHeadForm (bodies_in setting.now.bodies.now) a.now × IsHeadForm (bodies_in setting.now.bodies.now) b.now }
+    ensures { Walks (bodies_in setting.now.bodies.now) at.relation a.now b.now at.limit at.room at.deeper setting.now.place found.old.items found.new.items result }
 {
-    if is_equal {
+    if equal(a, b) {
         return Ok(0);
     }
-    different(setting, a, b, at, limit, found)
+    different(setting, a, b, at, found)
 }
 
 /// The same of terms that differ.
@@ -71,14 +71,15 @@ pub(crate) fn different(
     a: &Term,
     b: &Term,
     at: Position,
-    limit: u64,
     found: &mut Vec<Constraint>,
 ) -> Result<u64, Stop>
     requires left { loose a.now + at.room ≤ 65537 }
     requires right { loose b.now + at.room ≤ 65537 }
     requires path { at.room + at.deeper ≤ 2001 }
     requires closed { AreClosed setting.now.bodies.now }
-    ensures { Walks (bodies_in setting.now.bodies.now) at.relation a.now b.now limit at.room at.deeper setting.now.place found.old.items found.new.items result }
+    requires heads { at.are_head_forms ≡ true → IsHeadForm (bodies_in setting.now.bodies.now) a.now × IsHeadForm (bodies_in setting.now.bodies.now) b.now }
+    requires differ { Equal a.now b.now → ⊥ }
+    ensures { Walks (bodies_in setting.now.bodies.now) at.relation a.now b.now at.limit at.room at.deeper setting.now.place found.old.items found.new.items result }
 {
     if at.room == 0 {
         return Err(Stop::TooLarge {
@@ -87,14 +88,17 @@ pub(crate) fn different(
             depth: MAX_DEPTH + 1,
         });
     }
-    let left = head_of(setting, Side::Left, a, limit)?;
-    let right = head_of(setting, Side::Right, b, limit - left.steps)?;
+    if at.are_head_forms {
+        return forms(setting, a, b, at, found);
+    }
+    let left = head_of(setting, Side::Left, a, at.limit)?;
+    let right = head_of(setting, Side::Right, b, at.limit - left.steps)?;
     let steps = left.steps + right.steps;
-    let at = Position {
-        apart: steps == 0,
+    let rest = Position {
+        limit: at.limit - steps,
         ..at
     };
-    let inner = forms(setting, &left.term, &right.term, at, limit - steps, found)?;
+    let inner = forms(setting, &left.term, &right.term, rest, found)?;
     Ok(steps + inner)
 }
 
@@ -129,7 +133,6 @@ fn forms(
     a: &Term,
     b: &Term,
     at: Position,
-    limit: u64,
     found: &mut Vec<Constraint>,
 ) -> Result<u64, Stop>
     requires left { loose a.now + at.room ≤ 65537 }
@@ -137,7 +140,9 @@ fn forms(
     requires path { at.room + at.deeper ≤ 2001 }
     requires goes_on { 0 < at.room }
     requires closed { AreClosed setting.now.bodies.now }
-    ensures { FormsWalk (bodies_in setting.now.bodies.now) at.relation a.now b.now limit at.room at.deeper setting.now.place found.old.items found.new.items result }
+    requires left_head { IsHeadForm (bodies_in setting.now.bodies.now) a.now }
+    requires right_head { IsHeadForm (bodies_in setting.now.bodies.now) b.now }
+    ensures { FormsWalk (bodies_in setting.now.bodies.now) at.relation a.now b.now at.limit at.room at.deeper setting.now.place found.old.items found.new.items result }
 {
     match compare_roots(at.relation, a, b) {
         Roots::Apart => Err(differing(a, b, at.deeper)),
@@ -145,7 +150,7 @@ fn forms(
             ask(at.relation, low, high, setting.place, found)?;
             Ok(0)
         }
-        Roots::Alike => parts_from(setting, a, b, 0, at, limit, found),
+        Roots::Alike => parts_from(setting, a, b, 0, at, found),
     }
 }
 
@@ -193,7 +198,6 @@ fn parts_from(
     b: &Term,
     number: usize,
     at: Position,
-    limit: u64,
     found: &mut Vec<Constraint>,
 ) -> Result<u64, Stop>
     requires left { loose a.now + at.room ≤ 65537 }
@@ -201,41 +205,30 @@ fn parts_from(
     requires path { at.room + at.deeper ≤ 2001 }
     requires goes_on { 0 < at.room }
     requires closed { AreClosed setting.now.bodies.now }
+    requires left_head { IsHeadForm (bodies_in setting.now.bodies.now) a.now }
+    requires right_head { IsHeadForm (bodies_in setting.now.bodies.now) b.now }
     requires one_form { shape_of a.now ≡ shape_of b.now }
-    ensures { PartsWalk (bodies_in setting.now.bodies.now) at.relation a.now b.now number limit at.room at.deeper setting.now.place found.old.items found.new.items result }
+    ensures { PartsWalk (bodies_in setting.now.bodies.now) at.relation a.now b.now number at.limit at.room at.deeper setting.now.place found.old.items found.new.items result }
 {
     let (Some(left), Some(right)) = (part_at(a, number), part_at(b, number)) else {
         return Ok(0);
     };
-    let next = number + 1;
-    let is_last = part_at(a, next).is_none();
-    let is_equal = are_equal(left, right, at.apart && is_last);
     let inside = inside(at, a, number);
-    let steps = part(setting, left, right, is_equal, inside, limit, found)?;
+    let steps = part(setting, left, right, inside, found)?;
     let rest = Position {
-        apart: at.apart && is_equal,
+        limit: at.limit - steps,
         ..at
     };
-    let more = parts_from(setting, a, b, next, rest, limit - steps, found)?;
+    let more = parts_from(setting, a, b, number + 1, rest, found)?;
     Ok(steps + more)
-}
-
-/// Whether two parts are equal. Parts that are known to differ are not looked at: else a chain
-/// of binders would be read to its end at each of them.
-fn are_equal(a: &Term, b: &Term, differ: bool) -> bool
-    ensures { result ≡ true → Equal a.now b.now }
-{
-    !differ && equal(a, b)
 }
 
 /// Where the walk stands at the numbered part.
 fn inside(at: Position, t: &Term, number: usize) -> Position
     requires path { at.room + at.deeper ≤ 2001 }
     requires goes_on { 0 < at.room }
-    ensures relation { result.relation ≡ relation_of_part at.relation t.now number }
+    ensures is { result ≡ position_inside at t.now number }
     ensures path { result.room + result.deeper ≤ 2001 }
-    ensures room { result.room ≡ at.room - 1 }
-    ensures deeper { result.deeper ≡ if has_binder t.now number then at.deeper + 1 else at.deeper }
 {
     let deeper = if binds(t, number) {
         at.deeper + 1
@@ -246,6 +239,7 @@ fn inside(at: Position, t: &Term, number: usize) -> Position
         relation: relation_at(at.relation, t, number),
         room: at.room - 1,
         deeper,
-        apart: false,
+        limit: at.limit,
+        are_head_forms: is_at_head(t, number),
     }
 }

@@ -2,10 +2,11 @@
 use Rattle.std.proofs.Common.{◌≡◌, ◌⊎◌, inl, inr, ℕ, suc, List, [], ◌∷◌, ◌++◌, Bool, false, Option, Some, None, slice_get, map, take, refl, sym, ap, ◌∙◌, subst, append_assoc}
 use Rattle.std.proofs.lemmas.List.{append-nil}
 use Rattle.lego_lexer.specs.Tokens.{Lexeme, Name, Number, OfWord, OfSymbol}
-use Rattle.lego_grammar.specs.Written.{Deed}
-use Rattle.lego_grammar.specs.Grammar.{Names, Nested, Item, item, GoesOn, IsUnexpected}
-use Rattle.lego_grammar.specs.Machine.{Frame, Mode, Start, Between, State, state, move}
-use Rattle.lego_grammar.specs.Scanning.{class, goes, start_of}
+use Rattle.lego_grammar.specs.Written.{WrittenAct}
+use Rattle.lego_grammar.specs.Grammar.{Names, Nested, Item, item}
+use Rattle.lego_grammar.specs.Refusals.{GoesOn, IsUnexpected}
+use Rattle.lego_grammar.specs.private.Machine.{Frame, Mode, Start, Between, State, state, move}
+use Rattle.lego_grammar.specs.private.Runs.{class, goes, start_of}
 use Rattle.lego_grammar.proofs.Transitions.{Fits, Runs, runs_on}
 use Rattle.lego_grammar.proofs.Complete.{complete_command}
 use Rattle.lego_grammar.proofs.Sound.{Holds, step}
@@ -134,10 +135,10 @@ goes_front (i ∷ is) js (Some s) e h = goes_front is js (move false (class i.le
 
 -- a start of the machine at which no beginning is gone over
 pub stops : (is : List Item) → goes is (Some (state Start [])) ≡ None → goes is (Some (state (Between []) [])) ≡ None → GoesOn is → ⊥
-stops is h k g = go g.2.deed (ap (λ l. goes l (Some (state (start_of g.2.deed) []))) (sym g.3.same) ∙ gone g.0 (complete_command g.0 false g.3.reads))
+stops is h k g = go g.2.act (ap (λ l. goes l (Some (state (start_of g.2.act) []))) (sym g.3.same) ∙ gone g.0 (complete_command g.0 false g.3.reads))
   where
-    go : (d : Deed) {st : State} → goes (is ++ g.1) (Some (state (start_of d) [])) ≡ Some st → ⊥
-    go (Deed.Bindings bs) e = goes_front is g.1 (Some (state (Between []) [])) e k
+    go : (d : WrittenAct) {st : State} → goes (is ++ g.1) (Some (state (start_of d) [])) ≡ Some st → ⊥
+    go (WrittenAct.Bindings bs) e = goes_front is g.1 (Some (state (Between []) [])) e k
     go _ e = goes_front is g.1 (Some (state Start [])) e h
 
 pub decided : (is : List Item) → GoesOn is ⊎ (GoesOn is → ⊥)

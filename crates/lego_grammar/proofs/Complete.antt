@@ -12,11 +12,11 @@ use Rattle.lego_grammar.specs.declared.surface.Kind.{Kind}
 use Rattle.lego_grammar.specs.declared.surface.Kind.TheVariants.{Lambda, Pi, Sigma}
 use Rattle.lego_grammar.specs.declared.surface.Part.{Part}
 use Rattle.lego_grammar.specs.declared.surface.Part.TheVariants.{First, Second}
-use Rattle.lego_grammar.specs.Written.{Written, Named, WrittenProp, Bind, Local, Apply, Couple, Project, NameAt, Says, Assumed, Defined, Bound, Deed, Order}
+use Rattle.lego_grammar.specs.Written.{Written, Named, WrittenProp, Bind, Local, Apply, Pair, Project, NameAt, WrittenKind, Assumed, Defined, WrittenBinding, WrittenAct, WrittenCommand}
 use Rattle.lego_grammar.specs.Grammar as G
 use Rattle.lego_grammar.specs.Grammar.{Names, Nested, token, symbol, word, NameList, Form, Term, Ending, Sum, Spine, Post, Atom, Binder, Reads, ReadsBinding, ReadsBindings, ReadsNames, ReadsAct, ReadsCommand, places_of, names_of}
-use Rattle.lego_grammar.specs.Machine.{Site, InTerm, InContext, Use, ToShow, ToRefine, ToClaim, ToEquiv, ToHead, ToNormal, ToGoal, deed_of, Frame, ApplyTo, HashFrom, ArrowFrom, BodyOf, BodyWith, Parens, SecondOf, TypeOf, DomainOf, ValueOf, StatedFor, Whole, Mode, Start, Want, WantLevel, Behind, WantPart, WantName, BehindName, Between, BehindGoal, BehindGoalName, WantIntros, Done, keep, number, height, settled, summed, closed}
-use Rattle.lego_grammar.specs.Scanning.{start_of}
+use Rattle.lego_grammar.specs.private.Machine.{Site, InTerm, InContext, Use, ToShow, ToRefine, ToClaim, ToEquiv, ToHead, ToNormal, ToGoal, act_for, Frame, ApplyTo, HashFrom, ArrowFrom, BodyOf, BodyWith, Parens, SecondOf, TypeOf, DomainOf, ValueOf, StatedFor, Whole, Mode, Start, Want, WantLevel, Behind, WantPart, WantName, BehindName, Between, BehindGoal, BehindGoalName, WantIntros, Done, keep, number, height, settled, summed, closed}
+use Rattle.lego_grammar.specs.private.Runs.{start_of}
 use Rattle.lego_grammar.proofs.Transitions.{Operand, Closes, Move, Fits, TermWord, WaitingWord, Runs, runs_on, run_one}
 
 -- what is kept of a tree and of its parts
@@ -36,9 +36,9 @@ pub kept-project : (b : Bool) (part : Part) (m : Written) → keep b (Project pa
 kept-project true part m = refl
 kept-project false part m = refl
 
-pub kept-couple : (b : Bool) (m n a : Written) → keep b (Couple (keep b m) (keep b n) (keep b a)) ≡ keep b (Couple m n a)
-kept-couple true m n a = refl
-kept-couple false m n a = refl
+pub kept-pair : (b : Bool) (m n a : Written) → keep b (Pair (keep b m) (keep b n) (keep b a)) ≡ keep b (Pair m n a)
+kept-pair true m n a = refl
+kept-pair false m n a = refl
 
 abbrev pub numbered : Bool → List ℕ → List ℕ
 numbered b ns = map (number b) ns
@@ -55,30 +55,30 @@ pub kept-local : (b : Bool) (n : ℕ) (a c : Written) → keep b (Local (number 
 kept-local true n a c = refl
 kept-local false n a c = refl
 
-abbrev pub kept_says : Bool → Says → Says
-kept_says b (Assumed m a) = Assumed m (keep b a)
-kept_says b (Defined m a) = Defined (keep b m) (option_map (keep b) a)
+abbrev pub kept_kind : Bool → WrittenKind → WrittenKind
+kept_kind b (Assumed m a) = Assumed m (keep b a)
+kept_kind b (Defined m a) = Defined (keep b m) (option_map (keep b) a)
 
-abbrev pub kept_bound : Bool → Bound → Bound
-kept_bound b x = record { place = x.place; places = x.places; names = numbered b x.names; says = kept_says b x.says }
+abbrev pub kept_binding : Bool → WrittenBinding → WrittenBinding
+kept_binding b x = record { place = x.place; places = x.places; names = numbered b x.names; kind = kept_kind b x.kind }
 
 abbrev pub kept_at : Bool → NameAt → NameAt
 kept_at b x = record { place = x.place; name = number b x.name }
 
-abbrev pub kept_deed : Bool → Deed → Deed
-kept_deed b (Deed.Bindings bs) = Deed.Bindings (map (kept_bound b) bs)
-kept_deed b (Deed.Goal name s) = Deed.Goal (option_map (number b) name) (keep b s)
-kept_deed b (Deed.Intros ps ns) = Deed.Intros ps (numbered b ns)
-kept_deed b (Deed.Refine s) = Deed.Refine (keep b s)
-kept_deed b (Deed.Claim s) = Deed.Claim (keep b s)
-kept_deed b (Deed.Equiv s) = Deed.Equiv (keep b s)
-kept_deed b (Deed.Hnf s) = Deed.Hnf (keep b s)
-kept_deed b (Deed.Normal s) = Deed.Normal (keep b s)
-kept_deed b (Deed.Show s) = Deed.Show (keep b s)
-kept_deed b (Deed.Save name) = Deed.Save (option_map (number b) name)
-kept_deed b (Deed.Forget x) = Deed.Forget (kept_at b x)
-kept_deed b (Deed.Discharge x) = Deed.Discharge (kept_at b x)
-kept_deed b deed = deed
+abbrev pub kept_act : Bool → WrittenAct → WrittenAct
+kept_act b (WrittenAct.Bindings bs) = WrittenAct.Bindings (map (kept_binding b) bs)
+kept_act b (WrittenAct.Goal name s) = WrittenAct.Goal (option_map (number b) name) (keep b s)
+kept_act b (WrittenAct.Intros ps ns) = WrittenAct.Intros ps (numbered b ns)
+kept_act b (WrittenAct.Refine s) = WrittenAct.Refine (keep b s)
+kept_act b (WrittenAct.Claim s) = WrittenAct.Claim (keep b s)
+kept_act b (WrittenAct.Equiv s) = WrittenAct.Equiv (keep b s)
+kept_act b (WrittenAct.Hnf s) = WrittenAct.Hnf (keep b s)
+kept_act b (WrittenAct.Normal s) = WrittenAct.Normal (keep b s)
+kept_act b (WrittenAct.Show s) = WrittenAct.Show (keep b s)
+kept_act b (WrittenAct.Save name) = WrittenAct.Save (option_map (number b) name)
+kept_act b (WrittenAct.Forget x) = WrittenAct.Forget (kept_at b x)
+kept_act b (WrittenAct.Discharge x) = WrittenAct.Discharge (kept_at b x)
+kept_act b act = act
 
 -- the same number, by matching
 pub data Same (n : ℕ) : ℕ → Type 0 where
@@ -235,15 +235,15 @@ module _ (names : Names) (b : Bool) where
   complete fs (Reads.parens p q r) same h =
       let x = complete (Parens ∷ fs) r same (λ v. refl, λ v. refl) in
       (false, Runs.go refl (Move.want Operand.parens) (runs_on x.3 (run_one refl (Move.close x.4 Closes.parens))))
-  complete fs (Reads.couple p q r s {ts} {us} {vs} {m} {n} {a} rm rn ra) same h =
+  complete fs (Reads.pair p q r s {ts} {us} {vs} {m} {n} {a} rm rn ra) same h =
       let x = complete (Parens ∷ fs) rm same (λ v. refl, λ v. refl) in
       let y = complete (SecondOf (keep b m) ∷ fs) rn same (λ v. refl, λ v. refl) in
       let z = complete (TypeOf (keep b m) (keep b n) ∷ fs) ra same (λ v. refl, λ v. refl) in (
         false,
         Runs.go refl (Move.want Operand.parens)
             (runs_on (runs_on (runs_on x.3 (Runs.go refl (Move.close x.4 Closes.comma) y.3)) (Runs.go refl (Move.close y.4 Closes.colon) z.3))
-            (subst (λ w. Runs names b (Behind z.0 z.1) z.2 (symbol (height fs) s CloseParen ∷ []) (Behind false w) fs) (kept-couple b m n a)
-            (run_one refl (Move.close z.4 Closes.couple)))),
+            (subst (λ w. Runs names b (Behind z.0 z.1) z.2 (symbol (height fs) s CloseParen ∷ []) (Behind false w) fs) (kept-pair b m n a)
+            (run_one refl (Move.close z.4 Closes.pair)))),
       )
   complete fs (Reads.bind p q r {kind} {mark} {xs = xs} {a = a} {m = m} mb nl ra rm) same h =
       let x = complete (DomainOf (InTerm kind) mark (places_of xs) (numbered b (names_of xs)) ∷ fs) ra same (λ v. refl, λ v. refl) in
@@ -268,12 +268,12 @@ module _ (names : Names) (b : Bool) where
 
   -- a whole term, behind the words of its command
   whole_term : (u : Use) {ts : List Nested} {s : Written} (p : Place) → Reads names 0 Term ts s
-      → Runs names b Want (Whole u ∷ []) (ts ++ symbol 0 p Semicolon ∷ []) (Done (deed_of u (keep b s))) []
+      → Runs names b Want (Whole u ∷ []) (ts ++ symbol 0 p Semicolon ∷ []) (Done (act_for u (keep b s))) []
   whole_term u p r = let x = complete (Whole u ∷ []) r same (λ v. refl, λ v. refl) in runs_on x.3 (run_one refl (Move.close x.4 Closes.whole))
 
   -- a binding, and a run of them
-  complete_binding : {ts : List Nested} {x : Bound} → ReadsBinding names ts x → (bs : List Bound)
-      → Runs names b (Between bs) [] ts (Between (bs ++ kept_bound b x ∷ [])) []
+  complete_binding : {ts : List Nested} {x : WrittenBinding} → ReadsBinding names ts x → (bs : List WrittenBinding)
+      → Runs names b (Between bs) [] ts (Between (bs ++ kept_binding b x ∷ [])) []
   complete_binding (ReadsBinding.assume p q r {mark} {xs = xs} nl ra) bs =
       let x = complete (DomainOf (InContext p bs) mark (places_of xs) (numbered b (names_of xs)) ∷ []) ra same (λ v. refl, λ v. refl) in
       Runs.go refl Move.binding (runs_on (runs_on (named {fs = []} (InContext p bs) nl [] []) (Runs.go refl (Move.signed (may_bind mark)) x.3))
@@ -291,12 +291,12 @@ module _ (names : Names) (b : Bool) where
       Runs.go refl Move.binding (Runs.go (n, e, refl) Move.bound_name (Runs.go refl (Move.equals refl)
       (runs_on (runs_on x.3 (Runs.go refl (Move.close x.4 Closes.typed) y.3)) (run_one refl (Move.close y.4 Closes.stated)))))
 
-  complete_bindings : {ts : List Nested} {xs : List Bound} → ReadsBindings names ts xs → (bs : List Bound)
-      → Runs names b (Between bs) [] ts (Between (bs ++ map (kept_bound b) xs)) []
+  complete_bindings : {ts : List Nested} {xs : List WrittenBinding} → ReadsBindings names ts xs → (bs : List WrittenBinding)
+      → Runs names b (Between bs) [] ts (Between (bs ++ map (kept_binding b) xs)) []
   complete_bindings (ReadsBindings.one r) bs = complete_binding r bs
   complete_bindings (ReadsBindings.more {us = us} {b = x} {bs = xs} r rs) bs =
-      runs_on (complete_binding r bs) (subst (λ ys. Runs names b (Between (bs ++ kept_bound b x ∷ [])) [] us (Between ys) [])
-      (append_assoc bs (kept_bound b x ∷ []) (map (kept_bound b) xs)) (complete_bindings rs (bs ++ kept_bound b x ∷ [])))
+      runs_on (complete_binding r bs) (subst (λ ys. Runs names b (Between (bs ++ kept_binding b x ∷ [])) [] us (Between ys) [])
+      (append_assoc bs (kept_binding b x ∷ []) (map (kept_binding b) xs)) (complete_bindings rs (bs ++ kept_binding b x ∷ [])))
 
   complete_intros : {ts : List Nested} {xs : List NameAt} → ReadsNames names ts xs → (ps : List Place) (ns : List ℕ)
       → Runs names b (WantIntros ps ns) [] ts (WantIntros (ps ++ places_of xs) (ns ++ numbered b (names_of xs))) []
@@ -312,18 +312,18 @@ module _ (names : Names) (b : Bool) where
       (append_assoc ns (number b n ∷ []) (numbered b (names_of xs))) r))
 
   -- a term that begins a command, and one behind `Goal`
-  show_from : {ts : List Nested} {deed : Deed} {gs : List Frame} → Runs names b Want (Whole ToShow ∷ []) ts (Done deed) gs → Runs names b Start [] ts (Done deed) gs
+  show_from : {ts : List Nested} {act : WrittenAct} {gs : List Frame} → Runs names b Want (Whole ToShow ∷ []) ts (Done act) gs → Runs names b Start [] ts (Done act) gs
   show_from (Runs.go f (Move.want o) r) = Runs.go f (Move.show o) r
 
-  goal_from : {ts : List Nested} {deed : Deed} {gs : List Frame} → Runs names b Want (Whole (ToGoal None) ∷ []) ts (Done deed) gs → Runs names b BehindGoal [] ts (Done deed) gs
-  goal_from {deed = deed} {gs = gs} (Runs.go f (Move.want o) r) = first_operand o f r
+  goal_from : {ts : List Nested} {act : WrittenAct} {gs : List Frame} → Runs names b Want (Whole (ToGoal None) ∷ []) ts (Done act) gs → Runs names b BehindGoal [] ts (Done act) gs
+  goal_from {act = act} {gs = gs} (Runs.go f (Move.want o) r) = first_operand o f r
     where
-      behind_name : {p : Place} {n : ℕ} {ts : List Nested} → Runs names b (Behind false (keep b (Named p n))) (Whole (ToGoal None) ∷ []) ts (Done deed) gs
-          → Runs names b (BehindGoalName p n) [] ts (Done deed) gs
+      behind_name : {p : Place} {n : ℕ} {ts : List Nested} → Runs names b (Behind false (keep b (Named p n))) (Whole (ToGoal None) ∷ []) ts (Done act) gs
+          → Runs names b (BehindGoalName p n) [] ts (Done act) gs
       behind_name (Runs.go f x r) = Runs.go f (Move.goal_behind x) r
 
       first_operand : {n : ℕ} {t : Nested} {m : Mode} {ks : List Frame} {ts : List Nested} → Operand b (Whole (ToGoal None) ∷ []) t n m ks
-          → Fits names b t.lexeme n → Runs names b m ks ts (Done deed) gs → Runs names b BehindGoal [] (t ∷ ts) (Done deed) gs
+          → Fits names b t.lexeme n → Runs names b m ks ts (Done act) gs → Runs names b BehindGoal [] (t ∷ ts) (Done act) gs
       first_operand Operand.name f r = Runs.go f Move.goal_name (behind_name r)
       first_operand Operand.prop f r = Runs.go f (Move.goal_term (λ e. cc) Operand.prop) r
       first_operand Operand.any_type f r = Runs.go f (Move.goal_term (λ e. cc) Operand.any_type) r
@@ -331,7 +331,7 @@ module _ (names : Names) (b : Bool) where
       first_operand (Operand.binder k) f r = Runs.go f (Move.goal_term (λ e. cc) (Operand.binder k)) r
       first_operand Operand.parens f r = Runs.go f (Move.goal_term (λ e. cc) Operand.parens) r
 
-  complete_act : {ts : List Nested} {deed : Deed} (p : Place) → ReadsAct names ts deed → Runs names b (start_of deed) [] (ts ++ symbol 0 p Semicolon ∷ []) (Done (kept_deed b deed)) []
+  complete_act : {ts : List Nested} {act : WrittenAct} (p : Place) → ReadsAct names ts act → Runs names b (start_of act) [] (ts ++ symbol 0 p Semicolon ∷ []) (Done (kept_act b act)) []
   complete_act p (ReadsAct.bindings (ReadsBindings.one r)) = runs_on (complete_binding r []) (run_one refl Move.context)
   complete_act p (ReadsAct.bindings (ReadsBindings.more r rs)) = runs_on (complete_bindings (ReadsBindings.more r rs) []) (run_one refl Move.context)
   complete_act p (ReadsAct.show r) = show_from (whole_term ToShow p r)
@@ -359,5 +359,5 @@ module _ (names : Names) (b : Bool) where
   complete_act p (ReadsAct.alone G.LoneWord.explicit) = Runs.go refl (Move.waiting_word WaitingWord.explicit) (run_one refl Move.end)
   complete_act p (ReadsAct.alone G.LoneWord.implicit) = Runs.go refl (Move.waiting_word WaitingWord.implicit) (run_one refl Move.end)
 
-  pub complete_command : {ts : List Nested} {c : Order} → ReadsCommand names ts c → Runs names b (start_of c.deed) [] ts (Done (kept_deed b c.deed)) []
+  pub complete_command : {ts : List Nested} {c : WrittenCommand} → ReadsCommand names ts c → Runs names b (start_of c.act) [] ts (Done (kept_act b c.act)) []
   complete_command (ReadsCommand.command p r) = complete_act p r

@@ -7,9 +7,9 @@ use Rattle.lego_lexer.specs.declared.token.Word.TheVariants as Word
 use Rattle.lego_lexer.specs.declared.token.Symbol.TheVariants.{OpenSquare, CloseSquare, CloseParen, Colon, Semicolon}
 use Rattle.lego_grammar.specs.declared.surface.Kind.{Kind}
 use Rattle.lego_grammar.specs.declared.surface.Kind.TheVariants.{Lambda, Pi, Sigma}
-use Rattle.lego_grammar.specs.Written.{Written, WrittenProp, Bound, Deed}
+use Rattle.lego_grammar.specs.Written.{Written, WrittenProp, WrittenBinding, WrittenAct}
 use Rattle.lego_grammar.specs.Grammar.{Names, Nested, token, symbol, word, closing, MayBind}
-use Rattle.lego_grammar.specs.Machine.{Site, InContext, ToGoal, Frame, BodyOf, BodyWith, Parens, SecondOf, TypeOf, DomainOf, Whole, Mode, Start, Want, WantLevel, CloseLevel, Behind, WantPart, WantGoal, WantName, BehindName, Between, BehindGoal, BehindGoalName, WantIntros, WantNext, WantUndo, WantForget, WantDischarge, BehindSave, WantEnd, Done, keep, number, height, closed}
+use Rattle.lego_grammar.specs.private.Machine.{Site, InContext, ToGoal, Frame, BodyOf, BodyWith, Parens, SecondOf, TypeOf, DomainOf, Whole, Mode, Start, Want, WantLevel, CloseLevel, Behind, WantPart, WantGoal, WantName, BehindName, Between, BehindGoal, BehindGoalName, WantIntros, WantNext, WantUndo, WantForget, WantDischarge, BehindSave, WantEnd, Done, keep, number, height, closed}
 use Rattle.lego_grammar.proofs.Transitions.{Operand, Closes, Move, Fits, WaitingWord, Runs, run_one, kind_of}
 use Rattle.lego_grammar.proofs.Sound.{Awaits, Holds, step}
 
@@ -21,12 +21,12 @@ module _ (names : Names) (b : Bool) (i : ℕ) (text : List ℕ) (known : slice_g
   -- the machine goes on to an end
   pub record Finish (m : Mode) (fs : List Frame) : Type 0 where
     pub tokens : List Nested
-    pub deed : Deed
+    pub act : WrittenAct
     pub frames : List Frame
-    pub runs : Runs names b m fs tokens (Done deed) frames
+    pub runs : Runs names b m fs tokens (Done act) frames
 
   one_token : {m m' : Mode} {fs gs : List Frame} {n : ℕ} (t : Nested) → Fits names b t.lexeme n → Move b m fs t n m' gs → Finish m' gs → Finish m fs
-  one_token t f x r = record { tokens = t ∷ r.tokens; deed = r.deed; frames = r.frames; runs = Runs.go f x r.runs }
+  one_token t f x r = record { tokens = t ∷ r.tokens; act = r.act; frames = r.frames; runs = Runs.go f x r.runs }
 
   -- a closing token behind an operand, and the rest
   record Way (v : Written) (fs : List Frame) : Type 0 where
@@ -44,9 +44,9 @@ module _ (names : Names) (b : Bool) (i : ℕ) (text : List ℕ) (known : slice_g
   behind : {l : Bool} {v : Written} {fs : List Frame} → Way v fs → Finish (Behind l v) fs
   behind w = one_token {n = 0} w.token w.fits (Move.close w.ends w.closes) w.rest
 
-  end_context : (bs : List Bound) (x : Bound) → Finish (Between (bs ++ x ∷ [])) []
-  end_context [] x = record { tokens = symbol 0 here Semicolon ∷ []; deed = _; frames = []; runs = run_one {n = 0} refl Move.context }
-  end_context (y ∷ bs) x = record { tokens = symbol 0 here Semicolon ∷ []; deed = _; frames = []; runs = run_one {n = 0} refl Move.context }
+  end_context : (bs : List WrittenBinding) (x : WrittenBinding) → Finish (Between (bs ++ x ∷ [])) []
+  end_context [] x = record { tokens = symbol 0 here Semicolon ∷ []; act = _; frames = []; runs = run_one {n = 0} refl Move.context }
+  end_context (y ∷ bs) x = record { tokens = symbol 0 here Semicolon ∷ []; act = _; frames = []; runs = run_one {n = 0} refl Move.context }
 
   close_symbol : (k : Kind) (d : ℕ) → Fits names b (symbol d here (closing k)).lexeme 0
   close_symbol k d = refl
@@ -66,7 +66,7 @@ module _ (names : Names) (b : Bool) (i : ℕ) (text : List ℕ) (known : slice_g
     frames = [];
     fits = refl;
     closes = Closes.whole;
-    rest = record { tokens = []; deed = _; frames = []; runs = Runs.stay };
+    rest = record { tokens = []; act = _; frames = []; runs = Runs.stay };
   }
   way (Awaits.apply a n r) v = let w = way a (keep b _) in record { frame = w.frame; below = w.below; value = w.value; ends = w.ends; token = w.token; mode = w.mode; frames = w.frames; fits = w.fits; closes = w.closes; rest = w.rest }
   way (Awaits.apply_bar p a n r) v = let w = way a (keep b _) in record { frame = w.frame; below = w.below; value = w.value; ends = w.ends; token = w.token; mode = w.mode; frames = w.frames; fits = w.fits; closes = w.closes; rest = w.rest }
@@ -105,7 +105,7 @@ module _ (names : Names) (b : Bool) (i : ℕ) (text : List ℕ) (known : slice_g
       mode = _;
       frames = fs;
       fits = refl;
-      closes = Closes.couple;
+      closes = Closes.pair;
       rest = behind (way a _);
     });
   }
@@ -118,7 +118,7 @@ module _ (names : Names) (b : Bool) (i : ℕ) (text : List ℕ) (known : slice_g
     mode = _;
     frames = fs;
     fits = refl;
-    closes = Closes.couple;
+    closes = Closes.pair;
     rest = behind (way a _);
   }
   way (Awaits.domain {fs = fs} {k = k} {m = m} p q a mb nl) v = record {
@@ -200,11 +200,11 @@ module _ (names : Names) (b : Bool) (i : ℕ) (text : List ℕ) (known : slice_g
       let x : Move b (WantName site ps ns) fs (token (suc (height fs)) here (Name text)) (number b i) (BehindName site (ps ++ here ∷ []) (ns ++ number b i ∷ [])) fs = Move.bound_name in
       one_token {n = number b i} (token (suc (height fs)) here (Name text)) (i, known, refl) x (behind_name _ site (step names b all h (i, known, refl) x))
 
-  end_act : (deed : Deed) → Finish (WantEnd deed) []
-  end_act deed = record { tokens = symbol 0 here Semicolon ∷ []; deed = deed; frames = []; runs = run_one {n = 0} refl Move.end }
+  end_act : (act : WrittenAct) → Finish (WantEnd act) []
+  end_act act = record { tokens = symbol 0 here Semicolon ∷ []; act = act; frames = []; runs = run_one {n = 0} refl Move.end }
 
   pub finish : (all : List Nested) (m : Mode) (fs : List Frame) → Holds names b m fs all → Finish m fs
-  finish all Start [] h = one_token {n = 0} (word 0 here Word.Explicit) refl (Move.waiting_word WaitingWord.explicit) (end_act Deed.Explicit)
+  finish all Start [] h = one_token {n = 0} (word 0 here Word.Explicit) refl (Move.waiting_word WaitingWord.explicit) (end_act WrittenAct.Explicit)
   finish all Want fs h = want h
   finish all (WantLevel v) fs h =
       one_token {n = 0} (token (suc (height fs)) here (Number 0)) refl Move.level_number
@@ -219,7 +219,7 @@ module _ (names : Names) (b : Bool) (i : ℕ) (text : List ℕ) (known : slice_g
     where
       opens : Move b (Between []) [] (symbol 0 here OpenSquare) 0 (WantName (InContext here []) [] []) []
       opens = Move.binding
-  finish all (Between (x ∷ bs)) [] h = record { tokens = symbol 0 here Semicolon ∷ []; deed = _; frames = []; runs = run_one {n = 0} refl Move.context }
+  finish all (Between (x ∷ bs)) [] h = record { tokens = symbol 0 here Semicolon ∷ []; act = _; frames = []; runs = run_one {n = 0} refl Move.context }
   finish all BehindGoal [] h =
       let x : Move b BehindGoal [] (word 0 here Word.Prop) 0 (Behind false WrittenProp) (Whole (ToGoal None) ∷ []) = Move.goal_term (λ e. cc) Operand.prop in
       let y = step names b all h refl x in one_token {n = 0} (word 0 here Word.Prop) refl x (behind (way y.4 WrittenProp))
@@ -227,13 +227,13 @@ module _ (names : Names) (b : Bool) (i : ℕ) (text : List ℕ) (known : slice_g
       let x : Move b (BehindGoalName q j) [] (symbol 0 here Colon) 0 Want (Whole (ToGoal (Some j)) ∷ []) = Move.goal_named in one_token {n = 0} (symbol 0 here Colon) refl x (want (step names b all h refl x))
   finish all (WantIntros ps []) [] h =
       one_token {n = number b i} (token 0 here (Name text)) (i, known, refl) Move.intros_name
-      (record { tokens = symbol 0 here Semicolon ∷ []; deed = _; frames = []; runs = run_one {n = 0} refl Move.intros_end })
-  finish all (WantIntros ps (j ∷ ns)) [] h = record { tokens = symbol 0 here Semicolon ∷ []; deed = _; frames = []; runs = run_one {n = 0} refl Move.intros_end }
+      (record { tokens = symbol 0 here Semicolon ∷ []; act = _; frames = []; runs = run_one {n = 0} refl Move.intros_end })
+  finish all (WantIntros ps (j ∷ ns)) [] h = record { tokens = symbol 0 here Semicolon ∷ []; act = _; frames = []; runs = run_one {n = 0} refl Move.intros_end }
   finish all WantNext [] h = one_token {n = 0} (token 0 here (Number 0)) refl Move.next (end_act _)
   finish all WantUndo [] h = one_token {n = 0} (token 0 here (Number 0)) refl Move.undo (end_act _)
   finish all WantForget [] h = one_token {n = number b i} (token 0 here (Name text)) (i, known, refl) Move.forget (end_act _)
   finish all WantDischarge [] h = one_token {n = number b i} (token 0 here (Name text)) (i, known, refl) Move.discharge (end_act _)
-  finish all BehindSave [] h = record { tokens = symbol 0 here Semicolon ∷ []; deed = _; frames = []; runs = run_one {n = 0} refl Move.save }
-  finish all (WantEnd deed) [] h = end_act deed
-  finish all (Done deed) fs h = record { tokens = []; deed = deed; frames = fs; runs = Runs.stay }
+  finish all BehindSave [] h = record { tokens = symbol 0 here Semicolon ∷ []; act = _; frames = []; runs = run_one {n = 0} refl Move.save }
+  finish all (WantEnd act) [] h = end_act act
+  finish all (Done act) fs h = record { tokens = []; act = act; frames = fs; runs = Runs.stay }
   finish all _ _ h = absurd h

@@ -7,20 +7,9 @@ pub mod Moving
 pub mod Unique
 pub mod Beginnings
 pub mod Refusals
-pub mod NumberingLemmas
-pub mod RangesOfNames
-pub mod Depths
-pub mod Sides
-pub mod Scans
-pub mod Prevailing
-pub mod Deciding
-pub mod Scanning
-pub mod Balance
-pub mod Apart
-pub mod Cases
-pub mod BuildLemmas
-pub mod FrameLemmas
-pub mod TreeLemmas
-pub mod StackLemmas
-pub mod ParserLemmas
-pub mod ScanLemmas
+pub mod ReadOnce
+pub mod ReadingRefusals
+pub mod Lexing
+mod ExampleTexts
+mod DenotedTexts
+pub mod Proper

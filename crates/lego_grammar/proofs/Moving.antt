@@ -12,10 +12,10 @@ use Rattle.lego_lexer.specs.declared.token.Symbol.TheVariants.{OpenSquare, Close
 use Rattle.lego_grammar.specs.declared.surface.Kind.{Kind}
 use Rattle.lego_grammar.specs.declared.surface.Kind.TheVariants.{Lambda, Pi, Sigma}
 use Rattle.lego_grammar.specs.declared.surface.Part.TheVariants.{First, Second}
-use Rattle.lego_grammar.specs.Written.{Written, Named, Project, Bound}
+use Rattle.lego_grammar.specs.Written.{Written, Named, Project, WrittenBinding}
 use Rattle.lego_grammar.specs.Grammar.{Nested, token, MayBind}
-use Rattle.lego_grammar.specs.Machine.{Site, InTerm, InContext, Use, ToShow, ToGoal, Frame, ApplyTo, Parens, SecondOf, TypeOf, DomainOf, ValueOf, StatedFor, Whole, Mode, Start, Want, WantLevel, CloseLevel, Behind, WantPart, WantGoal, WantName, BehindName, Between, BehindGoal, BehindGoalName, WantIntros, WantNext, WantUndo, WantForget, WantDischarge, BehindSave, WantEnd, Done, State, state, moves, keep, height, settled, summed, closed, operand, closes, closes_top, behind, behind_paren, behind_name, starts, acts, part, between, level_closes, goal_numbered, names_one, move}
-use Rattle.lego_grammar.specs.Scanning.{class}
+use Rattle.lego_grammar.specs.private.Machine.{Site, InTerm, InContext, Use, ToShow, ToGoal, Frame, ApplyTo, Parens, SecondOf, TypeOf, DomainOf, ValueOf, StatedFor, Whole, Mode, Start, Want, WantLevel, CloseLevel, Behind, WantPart, WantGoal, WantName, BehindName, Between, BehindGoal, BehindGoalName, WantIntros, WantNext, WantUndo, WantForget, WantDischarge, BehindSave, WantEnd, Done, State, state, moves, keep, height, settled, summed, closed, operand, closes, closes_top, behind, behind_paren, behind_name, starts, acts, part, between, level_closes, goal_numbered, names_one, move}
+use Rattle.lego_grammar.specs.private.Runs.{class}
 use Rattle.lego_grammar.proofs.Transitions.{Applies, Operand, Closes, Move, TermWord, WaitingWord, kind_of}
 use Rattle.lego_grammar.proofs.Complete.{height-settled}
 
@@ -62,7 +62,7 @@ module _ (b : Bool) where
   close_to l v fs n e Closes.parens = ap (λ y. closes_top b y (Token.Symbol CloseParen)) e
   close_to l v fs n e Closes.comma = ap (λ y. closes_top b y (Token.Symbol Comma)) e
   close_to l v fs n e Closes.colon = ap (λ y. closes_top b y (Token.Symbol Colon)) e
-  close_to l v fs n e Closes.couple = ap (λ y. closes_top b y (Token.Symbol CloseParen)) e
+  close_to l v fs n e Closes.pair = ap (λ y. closes_top b y (Token.Symbol CloseParen)) e
   close_to l v fs n e (Closes.domain {k = Lambda}) = ap (λ y. closes_top b y (Token.Symbol CloseSquare)) e
   close_to l v fs n e (Closes.domain {k = Pi}) = ap (λ y. closes_top b y (Token.Symbol CloseBrace)) e
   close_to l v fs n e (Closes.domain {k = Sigma}) = ap (λ y. closes_top b y (Token.Symbol CloseAngle)) e
@@ -146,7 +146,7 @@ module _ (b : Bool) where
   named_close_to q i n fs e Closes.typed = absurd (true≢false (ap (λ (y : Written × List Frame). top_is true y.1) e))
   named_close_to q i n fs e Closes.parens = ap (λ y. closes_top b y (Token.Symbol CloseParen)) e
   named_close_to q i n fs e Closes.comma = ap (λ y. closes_top b y (Token.Symbol Comma)) e
-  named_close_to q i n fs e Closes.couple = ap (λ y. closes_top b y (Token.Symbol CloseParen)) e
+  named_close_to q i n fs e Closes.pair = ap (λ y. closes_top b y (Token.Symbol CloseParen)) e
   named_close_to q i n fs e (Closes.domain {k = Lambda}) = ap (λ y. closes_top b y (Token.Symbol CloseSquare)) e
   named_close_to q i n fs e (Closes.domain {k = Pi}) = ap (λ y. closes_top b y (Token.Symbol CloseBrace)) e
   named_close_to q i n fs e (Closes.domain {k = Sigma}) = ap (λ y. closes_top b y (Token.Symbol CloseAngle)) e
@@ -217,7 +217,7 @@ module _ (b : Bool) where
   closes_from Parens (OfSymbol CloseParen) p {v} {gs} e = (height gs, subst (λ s. Closes b Parens v gs (token (height gs) p (OfSymbol CloseParen)) s.mode s.frames) (some e) Closes.parens)
   closes_from Parens (OfSymbol Comma) p {v} {gs} e = (suc (height gs), subst (λ s. Closes b Parens v gs (token (suc (height gs)) p (OfSymbol Comma)) s.mode s.frames) (some e) Closes.comma)
   closes_from (SecondOf m) (OfSymbol Colon) p {v} {gs} e = (suc (height gs), subst (λ s. Closes b (SecondOf m) v gs (token (suc (height gs)) p (OfSymbol Colon)) s.mode s.frames) (some e) Closes.colon)
-  closes_from (TypeOf m k) (OfSymbol CloseParen) p {v} {gs} e = (height gs, subst (λ s. Closes b (TypeOf m k) v gs (token (height gs) p (OfSymbol CloseParen)) s.mode s.frames) (some e) Closes.couple)
+  closes_from (TypeOf m k) (OfSymbol CloseParen) p {v} {gs} e = (height gs, subst (λ s. Closes b (TypeOf m k) v gs (token (height gs) p (OfSymbol CloseParen)) s.mode s.frames) (some e) Closes.pair)
   closes_from (DomainOf (InTerm Lambda) m ps ns) (OfSymbol CloseSquare) p {v} {gs} e = (height gs, subst (λ s. Closes b (DomainOf (InTerm Lambda) m ps ns) v gs (token (height gs) p (OfSymbol CloseSquare)) s.mode s.frames) (some e) Closes.domain)
   closes_from (DomainOf (InTerm Pi) m ps ns) (OfSymbol CloseBrace) p {v} {gs} e = (height gs, subst (λ s. Closes b (DomainOf (InTerm Pi) m ps ns) v gs (token (height gs) p (OfSymbol CloseBrace)) s.mode s.frames) (some e) Closes.domain)
   closes_from (DomainOf (InTerm Sigma) m ps ns) (OfSymbol CloseAngle) p {v} {gs} e = (height gs, subst (λ s. Closes b (DomainOf (InTerm Sigma) m ps ns) v gs (token (height gs) p (OfSymbol CloseAngle)) s.mode s.frames) (some e) Closes.domain)
@@ -316,7 +316,7 @@ module _ (b : Bool) where
   starts_from (OfWord Word.Implicit) p n fs e = (height fs, subst (λ s. Move b Start fs (token (height fs) p (OfWord Word.Implicit)) n s.mode s.frames) (some e) (Move.waiting_word WaitingWord.implicit))
   starts_from x p n fs e = (_, Move.show (operand_from x e))
 
-  between_from : (x : Lexeme) (p : Place) (n : ℕ) (bs : List Bound) (fs : List Frame) {st : State} → between (class x) p bs fs ≡ Some st → Moved (Between bs) fs x p n st
+  between_from : (x : Lexeme) (p : Place) (n : ℕ) (bs : List WrittenBinding) (fs : List Frame) {st : State} → between (class x) p bs fs ≡ Some st → Moved (Between bs) fs x p n st
   between_from (OfSymbol OpenSquare) p n bs fs e = (height fs, subst (λ s. Move b (Between bs) fs (token (height fs) p (OfSymbol OpenSquare)) n s.mode s.frames) (some e) Move.binding)
   between_from (OfSymbol Semicolon) p n (y ∷ bs) fs e = (height fs, subst (λ s. Move b (Between (y ∷ bs)) fs (token (height fs) p (OfSymbol Semicolon)) n s.mode s.frames) (some e) Move.context)
   between_from _ p n _ fs e = cc
@@ -336,7 +336,7 @@ module _ (b : Bool) where
   acts_from (Name text) p n WantDischarge fs e = (height fs, subst (λ s. Move b WantDischarge fs (token (height fs) p (Name text)) n s.mode s.frames) (some e) Move.discharge)
   acts_from (Name text) p n BehindSave fs e = (height fs, subst (λ s. Move b BehindSave fs (token (height fs) p (Name text)) n s.mode s.frames) (some e) Move.save_name)
   acts_from (OfSymbol Semicolon) p n BehindSave fs e = (height fs, subst (λ s. Move b BehindSave fs (token (height fs) p (OfSymbol Semicolon)) n s.mode s.frames) (some e) Move.save)
-  acts_from (OfSymbol Semicolon) p n (WantEnd deed) fs e = (height fs, subst (λ s. Move b (WantEnd deed) fs (token (height fs) p (OfSymbol Semicolon)) n s.mode s.frames) (some e) Move.end)
+  acts_from (OfSymbol Semicolon) p n (WantEnd act) fs e = (height fs, subst (λ s. Move b (WantEnd act) fs (token (height fs) p (OfSymbol Semicolon)) n s.mode s.frames) (some e) Move.end)
   acts_from _ p n _ fs e = cc
 
   close_level_from : (x : Lexeme) (p : Place) (n i : ℕ) (fs : List Frame) {st : State} → level_closes b (class x) i fs ≡ Some st → Moved (CloseLevel i) fs x p n st
@@ -375,8 +375,8 @@ module _ (b : Bool) where
   move_from x p n WantForget fs e = acts_from x p n WantForget fs e
   move_from x p n WantDischarge fs e = acts_from x p n WantDischarge fs e
   move_from x p n BehindSave fs e = acts_from x p n BehindSave fs e
-  move_from x p n (WantEnd deed) fs e = acts_from x p n (WantEnd deed) fs e
-  move_from x p n (Done deed) fs e = acts_from x p n (Done deed) fs e
+  move_from x p n (WantEnd act) fs e = acts_from x p n (WantEnd act) fs e
+  move_from x p n (Done act) fs e = acts_from x p n (Done act) fs e
 
   -- how deep a token is nested where it moves the machine
   abbrev inside : List Frame → ℕ
@@ -430,7 +430,7 @@ module _ (b : Bool) where
   close_nest v fs e Closes.parens = ap (λ (y : Written × List Frame). outside y.1) (sym e)
   close_nest v fs e Closes.comma = ap (λ (y : Written × List Frame). inside y.1) (sym e)
   close_nest v fs e Closes.colon = ap (λ (y : Written × List Frame). inside y.1) (sym e)
-  close_nest v fs e Closes.couple = ap (λ (y : Written × List Frame). outside y.1) (sym e)
+  close_nest v fs e Closes.pair = ap (λ (y : Written × List Frame). outside y.1) (sym e)
   close_nest v fs e (Closes.domain {k = Lambda}) = ap (λ (y : Written × List Frame). outside y.1) (sym e)
   close_nest v fs e (Closes.domain {k = Pi}) = ap (λ (y : Written × List Frame). outside y.1) (sym e)
   close_nest v fs e (Closes.domain {k = Sigma}) = ap (λ (y : Written × List Frame). outside y.1) (sym e)

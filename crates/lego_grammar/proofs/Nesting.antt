@@ -3,7 +3,7 @@ use Rattle.std.proofs.Common.{◌≡◌, ℕ, suc, ◌≤◌, ◌⊎◌, inl, in
 use Rattle.lego_lexer.specs.declared.token.Word.{Word}
 use Rattle.lego_grammar.specs.Written.{Written}
 use Rattle.lego_grammar.specs.Grammar.{Nested}
-use Rattle.lego_grammar.specs.Machine.{Frame, ApplyTo, HashFrom, ArrowFrom, BodyOf, BodyWith, Mode, Want, WantLevel, WantName, state, level, height, summed, closed, wrapped}
+use Rattle.lego_grammar.specs.private.Machine.{Frame, ApplyTo, HashFrom, ArrowFrom, BodyOf, BodyWith, Mode, Want, WantLevel, WantName, state, level, height, summed, closed, wrapped}
 use Rattle.lego_grammar.proofs.Transitions.{Operand, Closes, Move, WaitingWord}
 use Rattle.lego_grammar.proofs.Complete.{height-settled}
 
@@ -54,7 +54,7 @@ module _ (b : Bool) where
   closes_below Closes.parens = omega arith
   closes_below Closes.comma = omega arith
   closes_below Closes.colon = omega arith
-  closes_below Closes.couple = omega arith
+  closes_below Closes.pair = omega arith
   closes_below Closes.domain = omega arith
   closes_below Closes.assumption = omega arith
   closes_below Closes.value = omega arith
@@ -67,7 +67,7 @@ module _ (b : Bool) where
   closes_follows Closes.parens = inl (omega arith)
   closes_follows Closes.comma = inl (omega arith)
   closes_follows Closes.colon = inl (omega arith)
-  closes_follows Closes.couple = inl (omega arith)
+  closes_follows Closes.pair = inl (omega arith)
   closes_follows Closes.domain = inr (refl, tt)
   closes_follows Closes.assumption = inl (omega arith)
   closes_follows Closes.value = inr (refl, tt)

@@ -2,12 +2,13 @@
 use Rattle.std.proofs.Common.{◌≡◌, ◌⊎◌, inl, inr, ℕ, zero, suc, ◌≤◌, ◌<◌, List, [], ◌∷◌, ◌++◌, false, Option, Some, None, slice_get, map, take, drop, length, refl, sym, ap, ◌∙◌, subst, append_assoc, arith, length-append}
 use lib.ListN.{take-append-drop}
 use Rattle.std.proofs.lemmas.Option.{slice_get_within}
-use Rattle.lego_grammar.specs.Written.{Order}
-use Rattle.lego_grammar.specs.Grammar.{Names, Nested, Item, item, ReadsCommand, Parses, GoesOn, IsUnexpected, IsContext, Prevails, NestedSo, IsTooDeep}
-use Rattle.lego_grammar.specs.Machine.{Done}
-use Rattle.lego_grammar.specs.Scanning.{start_of}
+use Rattle.lego_grammar.specs.Written.{WrittenCommand}
+use Rattle.lego_grammar.specs.Grammar.{Names, Nested, Item, item, ReadsCommand, Parses, IsContext}
+use Rattle.lego_grammar.specs.Refusals.{GoesOn, IsUnexpected, Prevails, NestedSo, IsTooDeep}
+use Rattle.lego_grammar.specs.private.Machine.{Done}
+use Rattle.lego_grammar.specs.private.Runs.{start_of}
 use Rattle.lego_grammar.proofs.Transitions.{Runs}
-use Rattle.lego_grammar.proofs.Complete.{kept_deed, complete_command}
+use Rattle.lego_grammar.proofs.Complete.{kept_act, complete_command}
 use Rattle.lego_grammar.proofs.Unique.{fits_zero, same_run, split, same_start, one_nesting}
 use Rattle.lego_grammar.proofs.Beginnings.{map-both}
 
@@ -44,7 +45,7 @@ one_unexpected tokens n m x y = go (order n m)
     go (inr (inr h)) = absurd (y.behind (goes_to tokens (suc m) n (omega (arith, h)) x.before))
 
 -- tokens that are read begin a command at each front
-read_goes : {names : Names} {nested : List Nested} {c : Order} (tokens : List Item) (n : ℕ) → map item nested ≡ tokens → ReadsCommand names nested c → GoesOn (take n tokens)
+read_goes : {names : Names} {nested : List Nested} {c : WrittenCommand} (tokens : List Item) (n : ℕ) → map item nested ≡ tokens → ReadsCommand names nested c → GoesOn (take n tokens)
 read_goes {names} {nested} {c} tokens n e r = (names, drop n tokens, c, record { nested = nested; same = e ∙ sym (take-append-drop n tokens); reads = r })
 
 slice_get_front : {X : Type 0} (xs ys : List X) (n : ℕ) → n < length xs → slice_get (xs ++ ys) n ≡ slice_get xs n
@@ -60,16 +61,16 @@ some_is {X} {x} e = ap get e
     get None = x
 
 -- the fronts of two commands with one start, over the same tokens, are nested alike
-same_front : (names names' : Names) (ts us : List Nested) {c c' : Order} (xs ys : List Nested) → start_of c.deed ≡ start_of c'.deed
+same_front : (names names' : Names) (ts us : List Nested) {c c' : WrittenCommand} (xs ys : List Nested) → start_of c.act ≡ start_of c'.act
     → ReadsCommand names (xs ++ ts) c → ReadsCommand names' (ys ++ us) c' → map item xs ≡ map item ys → xs ≡ ys
 same_front names names' ts us {c} {c'} xs ys start r q e =
     let x = split xs (complete_command names false r) in
-    let y = split ys (subst (λ m. Runs names' false m [] (ys ++ us) (Done (kept_deed false c'.deed)) []) (sym start) (complete_command names' false q)) in
+    let y = split ys (subst (λ m. Runs names' false m [] (ys ++ us) (Done (kept_act false c'.act)) []) (sym start) (complete_command names' false q)) in
     (same_run names names' false (λ z n n' f g. fits_zero names z f ∙ sym (fits_zero names' z g)) x.2 y.2 e).0
 
 -- which kind of command prevails
-one_kind : (tokens : List Item) (names names' : Names) (more more' : List Item) (c c' : Order) → Parses names (tokens ++ more) c → Parses names' (tokens ++ more') c'
-    → Prevails tokens c.deed → Prevails tokens c'.deed → IsContext c.deed → IsContext c'.deed
+one_kind : (tokens : List Item) (names names' : Names) (more more' : List Item) (c c' : WrittenCommand) → Parses names (tokens ++ more) c → Parses names' (tokens ++ more') c'
+    → Prevails tokens c.act → Prevails tokens c'.act → IsContext c.act → IsContext c'.act
 one_kind tokens names names' more more' c c' p p' (Prevails.in_binding h e) (Prevails.in_binding h' e') k = h'
 one_kind tokens names names' more more' c c' p p' (Prevails.in_binding h e) (Prevails.alone h' a') k = h'
 one_kind tokens names names' more more' c c' p p' (Prevails.in_binding h e) (Prevails.other h' e') k = absurd (e' e)
@@ -106,8 +107,8 @@ agree tokens xs ys (NestedSo.unread {names} as1 more next {c} x m p q) (NestedSo
     let items : map item as1 ≡ map item bs1 = m ∙ (ap (λ k. take k tokens) n ∙ sym m') in
     let par : Parses names (take (length as1) tokens ++ map item (next ∷ more)) c = record { nested = as1 ++ next ∷ more; same = map-both as1 (next ∷ more) ∙ ap (λ l. l ++ map item (next ∷ more)) m; reads = q } in
     let par' : Parses names' (take (length as1) tokens ++ map item (next' ∷ more')) c' = record { nested = bs1 ++ next' ∷ more'; same = map-both bs1 (next' ∷ more') ∙ ap (λ l. l ++ map item (next' ∷ more')) (m' ∙ ap (λ k. take k tokens) (sym n)); reads = q' } in
-    let pre' : Prevails (take (length as1) tokens) c'.deed = subst (λ k. Prevails (take k tokens) c'.deed) (sym n) p' in
-    let start = same_start c.deed c'.deed
+    let pre' : Prevails (take (length as1) tokens) c'.act = subst (λ k. Prevails (take k tokens) c'.act) (sym n) p' in
+    let start = same_start c.act c'.act
     (one_kind (take (length as1) tokens) names names' (map item (next ∷ more)) (map item (next' ∷ more')) c c' par par' p pre')
     (one_kind (take (length as1) tokens) names' names (map item (next' ∷ more')) (map item (next ∷ more)) c' c par' par pre' p) in
     last_agree as1 bs1 next next' (same_front names names' (next ∷ more) (next' ∷ more') as1 bs1 start q q' items)

@@ -9,12 +9,12 @@ use Rattle.lego_lexer.specs.declared.token.Symbol.TheVariants.{OpenSquare, Close
 use Rattle.lego_grammar.specs.declared.surface.Kind.{Kind}
 use Rattle.lego_grammar.specs.declared.surface.Kind.TheVariants.{Lambda, Pi, Sigma}
 use Rattle.lego_grammar.specs.declared.surface.Part.TheVariants.{First, Second}
-use Rattle.lego_grammar.specs.Written.{Written, Named, WrittenProp, AnyType, TypeAt, GoalAt, Apply, Couple, Project, NameAt, Assumed, Defined, Bound, Deed, Order}
+use Rattle.lego_grammar.specs.Written.{Written, Named, WrittenProp, AnyType, TypeAt, GoalAt, Apply, Pair, Project, NameAt, Assumed, Defined, WrittenBinding, WrittenAct, WrittenCommand}
 use Rattle.lego_grammar.specs.Grammar as G
 use Rattle.lego_grammar.specs.Grammar.{Names, Nested, token, symbol, word, NameList, Form, Term, Ending, Sum, Spine, Post, Atom, Binder, Reads, ReadsBinding, ReadsBindings, ReadsNames, ReadsAct, ReadsCommand, places_of, names_of, opening, closing, sign, MayBind}
-use Rattle.lego_grammar.specs.Machine.{Site, InTerm, InContext, Use, ToShow, ToGoal, deed_of, Frame, ApplyTo, HashFrom, ArrowFrom, BodyOf, BodyWith, Parens, SecondOf, TypeOf, DomainOf, ValueOf, StatedFor, Whole, Mode, Start, Want, WantLevel, CloseLevel, Behind, WantPart, WantGoal, WantName, BehindName, Between, BehindGoal, BehindGoalName, WantIntros, WantNext, WantUndo, WantForget, WantDischarge, BehindSave, WantEnd, Done, keep, number, height, settled, summed, closed}
-use Rattle.lego_grammar.proofs.Transitions.{Operand, Closes, Move, Fits, TermWord, WaitingWord, bound, kind_of}
-use Rattle.lego_grammar.proofs.Complete.{kept-named, kept-prop, kept-apply, kept-project, kept-couple, kept-bind, kept-local, numbered, kept_bound, kept_deed, height-settled}
+use Rattle.lego_grammar.specs.private.Machine.{Site, InTerm, InContext, Use, ToShow, ToGoal, act_for, Frame, ApplyTo, HashFrom, ArrowFrom, BodyOf, BodyWith, Parens, SecondOf, TypeOf, DomainOf, ValueOf, StatedFor, Whole, Mode, Start, Want, WantLevel, CloseLevel, Behind, WantPart, WantGoal, WantName, BehindName, Between, BehindGoal, BehindGoalName, WantIntros, WantNext, WantUndo, WantForget, WantDischarge, BehindSave, WantEnd, Done, keep, number, height, settled, summed, closed}
+use Rattle.lego_grammar.proofs.Transitions.{Operand, Closes, Move, Fits, TermWord, WaitingWord, binding_at, kind_of}
+use Rattle.lego_grammar.proofs.Complete.{kept-named, kept-prop, kept-apply, kept-project, kept-pair, kept-bind, kept-local, numbered, kept_binding, kept_act, height-settled}
 
 pub glue : (ws us : List Nested) (t : Nested) (ts : List Nested) → ws ++ (us ++ t ∷ ts) ≡ (ws ++ (us ++ t ∷ [])) ++ ts
 glue ws us t ts = sym (append_assoc ws (us ++ t ∷ []) ts ∙ ap (λ l. ws ++ l) (append_assoc us (t ∷ []) ts))
@@ -41,9 +41,9 @@ module _ (names : Names) (b : Bool) where
     worded : {p : Place} {w : Word} {u : Use} → TermWord w u → Begins u (word 0 p w ∷ [])
 
   -- the bindings of a context command so far
-  pub record SomeBindings (ts : List Nested) (bs : List Bound) : Type 0 where
-    pub items : List Bound
-    pub kept : bs ≡ map (kept_bound b) items
+  pub record SomeBindings (ts : List Nested) (bs : List WrittenBinding) : Type 0 where
+    pub items : List WrittenBinding
+    pub kept : bs ≡ map (kept_binding b) items
     pub reads : ReadsBindings names ts items ⊎ ((ts ≡ []) × (items ≡ []))
 
   -- These tokens are gone over where an operand is due above these frames.
@@ -81,13 +81,13 @@ module _ (names : Names) (b : Bool) where
         → Awaits ws fs → slice_get names n ≡ Some text
         → Awaits (ws ++ (symbol (height fs) p OpenSquare ∷ token (suc (height fs)) q (Name text) ∷ symbol (suc (height fs)) r Equals ∷ []))
         (ValueOf (InTerm Lambda) q (number b n) ∷ fs)
-    assumed : {ws ns : List Nested} {bs : List Bound} {m : Mark} {xs : List NameAt} (p q : Place)
+    assumed : {ws ns : List Nested} {bs : List WrittenBinding} {m : Mark} {xs : List NameAt} (p q : Place)
         → SomeBindings ws bs → NameList names 1 ns xs
         → Awaits (ws ++ ((symbol 0 p OpenSquare ∷ ns) ++ symbol 1 q (sign m) ∷ [])) (DomainOf (InContext p bs) m (places_of xs) (numbered b (names_of xs)) ∷ [])
-    defined : {ws : List Nested} {bs : List Bound} (n : ℕ) {text : List ℕ} (p q r : Place)
+    defined : {ws : List Nested} {bs : List WrittenBinding} (n : ℕ) {text : List ℕ} (p q r : Place)
         → SomeBindings ws bs → slice_get names n ≡ Some text
         → Awaits (ws ++ (symbol 0 p OpenSquare ∷ token 1 q (Name text) ∷ symbol 1 r Equals ∷ [])) (ValueOf (InContext p bs) q (number b n) ∷ [])
-    stated : {ws ts : List Nested} {bs : List Bound} (n : ℕ) {text : List ℕ} {m : Written} (p q r s : Place)
+    stated : {ws ts : List Nested} {bs : List WrittenBinding} (n : ℕ) {text : List ℕ} {m : Written} (p q r s : Place)
         → SomeBindings ws bs → slice_get names n ≡ Some text → Reads names 1 Term ts m
         → Awaits (ws ++ ((symbol 0 p OpenSquare ∷ token 1 q (Name text) ∷ symbol 1 r Equals ∷ ts) ++ symbol 1 s Colon ∷ [])) (StatedFor p bs q (number b n) (keep b m) ∷ [])
 
@@ -292,9 +292,9 @@ module _ (names : Names) (b : Bool) where
   Holds WantForget fs all = Worded Word.Forget fs all
   Holds WantDischarge fs all = Worded Word.Discharge fs all
   Holds BehindSave fs all = Worded Word.Save fs all
-  Holds (WantEnd deed) [] all =
-      (t : Nested) × (ts : List Nested) × (written : Deed) × (all ≡ t ∷ ts) × ReadsAct names (t ∷ ts) written × (deed ≡ kept_deed b written)
-  Holds (Done deed) fs all = (c : Order) × ReadsCommand names all c × (deed ≡ kept_deed b c.deed)
+  Holds (WantEnd act) [] all =
+      (t : Nested) × (ts : List Nested) × (written : WrittenAct) × (all ≡ t ∷ ts) × ReadsAct names (t ∷ ts) written × (act ≡ kept_act b written)
+  Holds (Done act) fs all = (c : WrittenCommand) × ReadsCommand names all c × (act ≡ kept_act b c.act)
   Holds _ _ _ = ⊥
 
   -- a function that awaits an argument
@@ -370,38 +370,38 @@ module _ (names : Names) (b : Bool) where
   first_token (Reads.type_at p q r s) = (_, _, refl)
   first_token (Reads.goal p q) = (_, _, refl)
   first_token (Reads.parens p q r) = (_, _, refl)
-  first_token (Reads.couple p q r s rm rn ra) = (_, _, refl)
+  first_token (Reads.pair p q r s rm rn ra) = (_, _, refl)
   first_token (Reads.bind p q r mb nl ra rm) = (_, _, refl)
   first_token (Reads.local p q r s e rm rb) = (_, _, refl)
 
-  binding_token : {ts : List Nested} {x : Bound} → ReadsBinding names ts x → (t : Nested) × (us : List Nested) × (ts ≡ t ∷ us)
+  binding_token : {ts : List Nested} {x : WrittenBinding} → ReadsBinding names ts x → (t : Nested) × (us : List Nested) × (ts ≡ t ∷ us)
   binding_token (ReadsBinding.assume p q r nl ra) = (_, _, refl)
   binding_token (ReadsBinding.define p q r s e rm) = (_, _, refl)
   binding_token (ReadsBinding.define_typed p q r s t e rm ra) = (_, _, refl)
 
-  bindings_token : {ts : List Nested} {xs : List Bound} → ReadsBindings names ts xs → (t : Nested) × (us : List Nested) × (ts ≡ t ∷ us)
+  bindings_token : {ts : List Nested} {xs : List WrittenBinding} → ReadsBindings names ts xs → (t : Nested) × (us : List Nested) × (ts ≡ t ∷ us)
   bindings_token (ReadsBindings.one r) = binding_token r
   bindings_token (ReadsBindings.more {us = us} r rs) = let x = binding_token r in (x.0, _, ap (λ l. l ++ us) x.2)
 
   -- a command, behind what it asks for
-  commanded : {ts us : List Nested} {t : Nested} {deed : Deed} (p : Place) → ts ≡ t ∷ us → ReadsAct names ts deed
-      → ReadsCommand names (ts ++ symbol 0 p Semicolon ∷ []) (record { place = t.place; deed = deed })
-  commanded {us = us} {t} {deed} p e r =
-      subst (λ l. ReadsCommand names (l ++ symbol 0 p Semicolon ∷ []) (record { place = t.place; deed = deed })) (sym e)
-      (ReadsCommand.command p (subst (λ l. ReadsAct names l deed) e r))
+  commanded : {ts us : List Nested} {t : Nested} {act : WrittenAct} (p : Place) → ts ≡ t ∷ us → ReadsAct names ts act
+      → ReadsCommand names (ts ++ symbol 0 p Semicolon ∷ []) (record { place = t.place; act = act })
+  commanded {us = us} {t} {act} p e r =
+      subst (λ l. ReadsCommand names (l ++ symbol 0 p Semicolon ∷ []) (record { place = t.place; act = act })) (sym e)
+      (ReadsCommand.command p (subst (λ l. ReadsAct names l act) e r))
 
   whole_act : {u : Use} {ws ts : List Nested} {s : Written} → Begins u ws → Reads names 0 Term ts s
-      → (t : Nested) × (us : List Nested) × (deed : Deed) × (ws ++ ts ≡ t ∷ us) × ReadsAct names (ws ++ ts) deed × (deed_of u (keep b s) ≡ kept_deed b deed)
-  whole_act {s = s} Begins.show r = let x = first_token r in (x.0, x.1, Deed.Show s, x.2, ReadsAct.show r, refl)
-  whole_act {s = s} Begins.goal r = (_, _, Deed.Goal None s, refl, ReadsAct.with_term G.TermWord.goal r, refl)
-  whole_act {s = s} (Begins.named n e) r = (_, _, Deed.Goal (Some n) s, refl, ReadsAct.named_goal e r, refl)
-  whole_act {s = s} (Begins.worded TermWord.refine) r = (_, _, Deed.Refine s, refl, ReadsAct.with_term G.TermWord.refine r, refl)
-  whole_act {s = s} (Begins.worded TermWord.claim) r = (_, _, Deed.Claim s, refl, ReadsAct.with_term G.TermWord.claim r, refl)
-  whole_act {s = s} (Begins.worded TermWord.equiv) r = (_, _, Deed.Equiv s, refl, ReadsAct.with_term G.TermWord.equiv r, refl)
-  whole_act {s = s} (Begins.worded TermWord.hnf) r = (_, _, Deed.Hnf s, refl, ReadsAct.with_term G.TermWord.hnf r, refl)
-  whole_act {s = s} (Begins.worded TermWord.normal) r = (_, _, Deed.Normal s, refl, ReadsAct.with_term G.TermWord.normal r, refl)
+      → (t : Nested) × (us : List Nested) × (act : WrittenAct) × (ws ++ ts ≡ t ∷ us) × ReadsAct names (ws ++ ts) act × (act_for u (keep b s) ≡ kept_act b act)
+  whole_act {s = s} Begins.show r = let x = first_token r in (x.0, x.1, WrittenAct.Show s, x.2, ReadsAct.show r, refl)
+  whole_act {s = s} Begins.goal r = (_, _, WrittenAct.Goal None s, refl, ReadsAct.with_term G.TermWord.goal r, refl)
+  whole_act {s = s} (Begins.named n e) r = (_, _, WrittenAct.Goal (Some n) s, refl, ReadsAct.named_goal e r, refl)
+  whole_act {s = s} (Begins.worded TermWord.refine) r = (_, _, WrittenAct.Refine s, refl, ReadsAct.with_term G.TermWord.refine r, refl)
+  whole_act {s = s} (Begins.worded TermWord.claim) r = (_, _, WrittenAct.Claim s, refl, ReadsAct.with_term G.TermWord.claim r, refl)
+  whole_act {s = s} (Begins.worded TermWord.equiv) r = (_, _, WrittenAct.Equiv s, refl, ReadsAct.with_term G.TermWord.equiv r, refl)
+  whole_act {s = s} (Begins.worded TermWord.hnf) r = (_, _, WrittenAct.Hnf s, refl, ReadsAct.with_term G.TermWord.hnf r, refl)
+  whole_act {s = s} (Begins.worded TermWord.normal) r = (_, _, WrittenAct.Normal s, refl, ReadsAct.with_term G.TermWord.normal r, refl)
 
-  more_readings : {ts us : List Nested} {xs : List Bound} {x : Bound} → ReadsBindings names ts xs → ReadsBinding names us x → ReadsBindings names (ts ++ us) (xs ++ x ∷ [])
+  more_readings : {ts us : List Nested} {xs : List WrittenBinding} {x : WrittenBinding} → ReadsBindings names ts xs → ReadsBinding names us x → ReadsBindings names (ts ++ us) (xs ++ x ∷ [])
   more_readings (ReadsBindings.one r) q = ReadsBindings.more r (ReadsBindings.one q)
   more_readings {us = us} {x = x} (ReadsBindings.more {ts} {us = vs} {b = y} {bs = ys} r rs) q =
       subst (λ l. ReadsBindings names l (y ∷ (ys ++ x ∷ []))) (sym (append_assoc ts vs us)) (ReadsBindings.more r (more_readings rs q))
@@ -410,14 +410,14 @@ module _ (names : Names) (b : Bool) where
   map-last f [] x = refl
   map-last f (y ∷ xs) x = ap (λ l. f y ∷ l) (map-last f xs x)
 
-  more_bindings : {ts us : List Nested} {bs : List Bound} {x : Bound} → SomeBindings ts bs → ReadsBinding names us x → SomeBindings (ts ++ us) (bs ++ kept_bound b x ∷ [])
+  more_bindings : {ts us : List Nested} {bs : List WrittenBinding} {x : WrittenBinding} → SomeBindings ts bs → ReadsBinding names us x → SomeBindings (ts ++ us) (bs ++ kept_binding b x ∷ [])
   more_bindings {ts} {us} {bs} {x} h q = record {
     items = h.items ++ x ∷ [];
-    kept = ap (λ l. l ++ kept_bound b x ∷ []) h.kept ∙ sym (map-last (kept_bound b) h.items x);
+    kept = ap (λ l. l ++ kept_binding b x ∷ []) h.kept ∙ sym (map-last (kept_binding b) h.items x);
     reads = inl (go h.items h.reads);
   }
     where
-      go : (xs : List Bound) → ReadsBindings names ts xs ⊎ ((ts ≡ []) × (xs ≡ [])) → ReadsBindings names (ts ++ us) (xs ++ x ∷ [])
+      go : (xs : List WrittenBinding) → ReadsBindings names ts xs ⊎ ((ts ≡ []) × (xs ≡ [])) → ReadsBindings names (ts ++ us) (xs ++ x ∷ [])
       go xs (inl r) = more_readings r q
       go xs (inr e) =
           subst (λ l. ReadsBindings names (l ++ us) (xs ++ x ∷ [])) (sym e.0) (subst (λ l. ReadsBindings names us (l ++ x ∷ [])) (sym e.1) (ReadsBindings.one q))
@@ -457,14 +457,14 @@ module _ (names : Names) (b : Bool) where
   closes_step {ts = ts} {s = s} (Closes.colon {p = p}) (Awaits.second {ws} {ts = us} {fs} {m} q q' a rm) r i e =
       both (λ l v. Awaits l (TypeOf (keep b m) v ∷ fs)) (went_on ws (symbol (height fs) q OpenParen ∷ us) _ ts _ e) i
       (Awaits.typed q q' p a rm r)
-  closes_step {ts = ts} {s = s} (Closes.couple {p = p}) (Awaits.typed {ws} {ts = us} {us = vs} {fs} {m} {n} q q' q'' a rm rn) r i e = (
+  closes_step {ts = ts} {s = s} (Closes.pair {p = p}) (Awaits.typed {ws} {ts = us} {us = vs} {fs} {m} {n} q q' q'' a rm rn) r i e = (
     ws,
     _,
-    Couple m n s,
+    Pair m n s,
     went_on ws ((symbol (height fs) q OpenParen ∷ us) ++ symbol (suc (height fs)) q' Comma ∷ vs) _ ts _ e,
     a,
-    Reads.post_atom (Reads.couple q q' q'' p rm rn r),
-    ap (λ v. keep b (Couple (keep b m) (keep b n) v)) i ∙ kept-couple b m n s,
+    Reads.post_atom (Reads.pair q q' q'' p rm rn r),
+    ap (λ v. keep b (Pair (keep b m) (keep b n) v)) i ∙ kept-pair b m n s,
     tt,
   )
   closes_step {ts = ts} {s = s} (Closes.domain {p = p}) (Awaits.domain {ws} {ns} {fs} {k} {m} {xs} q q' a mb nl) r i e =
@@ -474,20 +474,20 @@ module _ (names : Names) (b : Bool) where
       both (λ l v. Awaits l (BodyWith (number b n) v ∷ fs)) (opened ws (symbol (height fs) q OpenSquare ∷ token (suc (height fs)) q' (Name text) ∷ symbol (suc (height fs)) q'' Equals ∷ []) ts _ e) i
       (Awaits.locally n q q' q'' p a f r)
   closes_step {ts = ts} {s = s} (Closes.assumption {m = m} {p = p}) (Awaits.assumed {ws} {ns} {bs} {xs = xs} q q' sb nl) r i e =
-      both (λ l v. SomeBindings l (bs ++ bound q (places_of xs) (numbered b (names_of xs)) (Assumed m v) ∷ [])) (went_on ws (symbol 0 q OpenSquare ∷ ns) _ ts _ e) i
+      both (λ l v. SomeBindings l (bs ++ binding_at q (places_of xs) (numbered b (names_of xs)) (Assumed m v) ∷ [])) (went_on ws (symbol 0 q OpenSquare ∷ ns) _ ts _ e) i
       (more_bindings sb (ReadsBinding.assume q q' p nl r))
   closes_step {ts = ts} {s = s} (Closes.definition {p = p}) (Awaits.defined {ws} {bs} n {text} q q' q'' sb f) r i e =
-      both (λ l v. SomeBindings l (bs ++ bound q (q' ∷ []) (number b n ∷ []) (Defined v None) ∷ [])) (opened ws (symbol 0 q OpenSquare ∷ token 1 q' (Name text) ∷ symbol 1 q'' Equals ∷ []) ts _ e) i
+      both (λ l v. SomeBindings l (bs ++ binding_at q (q' ∷ []) (number b n ∷ []) (Defined v None) ∷ [])) (opened ws (symbol 0 q OpenSquare ∷ token 1 q' (Name text) ∷ symbol 1 q'' Equals ∷ []) ts _ e) i
       (more_bindings sb (ReadsBinding.define q q' q'' p f r))
   closes_step {ts = ts} {s = s} (Closes.typed {p = p}) (Awaits.defined {ws} {bs} n {text} q q' q'' sb f) r i e =
       both (λ l v. Awaits l (StatedFor q bs q' (number b n) v ∷ [])) (opened ws (symbol 0 q OpenSquare ∷ token 1 q' (Name text) ∷ symbol 1 q'' Equals ∷ []) ts _ e) i
       (Awaits.stated n q q' q'' p sb f r)
   closes_step {ts = ts} {s = s} (Closes.stated {p = p}) (Awaits.stated {ws} {ts = us} {bs} n {text} {m} q q' q'' q3 sb f rm) r i e =
-      both (λ l v. SomeBindings l (bs ++ bound q (q' ∷ []) (number b n ∷ []) (Defined (keep b m) (Some v)) ∷ [])) (went_on ws (symbol 0 q OpenSquare ∷ token 1 q' (Name text) ∷ symbol 1 q'' Equals ∷ us) _ ts _ e) i
+      both (λ l v. SomeBindings l (bs ++ binding_at q (q' ∷ []) (number b n ∷ []) (Defined (keep b m) (Some v)) ∷ [])) (went_on ws (symbol 0 q OpenSquare ∷ token 1 q' (Name text) ∷ symbol 1 q'' Equals ∷ us) _ ts _ e) i
       (more_bindings sb (ReadsBinding.define_typed q q' q'' q3 p f rm r))
   closes_step {ts = ts} {s = s} (Closes.whole {u = u} {p = p}) (Awaits.whole {ws = ws} g) r i e =
       let x = whole_act g r in
-      (record { place = x.0.place; deed = x.2 }, subst (λ l. ReadsCommand names (l ++ symbol 0 p Semicolon ∷ []) (record { place = x.0.place; deed = x.2 })) e (commanded p x.3 x.4), ap (λ v. deed_of u v) i ∙ x.5)
+      (record { place = x.0.place; act = x.2 }, subst (λ l. ReadsCommand names (l ++ symbol 0 p Semicolon ∷ []) (record { place = x.0.place; act = x.2 })) e (commanded p x.3 x.4), ap (λ v. act_for u v) i ∙ x.5)
 
   -- names that were bound together
   one_more_place : {ps : List Place} (xs : List NameAt) (p : Place) (n : ℕ) → ps ≡ places_of xs → ps ++ p ∷ [] ≡ places_of (xs ++ record { place = p; name = n } ∷ [])
@@ -576,8 +576,8 @@ module _ (names : Names) (b : Bool) where
   equals_step ws q [] (InContext y bs) p o (NameList.more g (NameList.more g' r)) ep en e l = cc
 
   -- the tokens of an action that a name or a numeral ends
-  act_step : {all : List Nested} {t : Nested} {deed kept : Deed} (w : Nested) → all ≡ w ∷ [] → ReadsAct names (w ∷ t ∷ []) deed → kept ≡ kept_deed b deed → Holds (WantEnd kept) [] (all ++ t ∷ [])
-  act_step {t = t} {deed} w e r k = (w, t ∷ [], deed, ap (λ l. l ++ t ∷ []) e, r, k)
+  act_step : {all : List Nested} {t : Nested} {act kept : WrittenAct} (w : Nested) → all ≡ w ∷ [] → ReadsAct names (w ∷ t ∷ []) act → kept ≡ kept_act b act → Holds (WantEnd kept) [] (all ++ t ∷ [])
+  act_step {t = t} {act} w e r k = (w, t ∷ [], act, ap (λ l. l ++ t ∷ []) e, r, k)
 
   waiting_step : {all : List Nested} (p : Place) {w : Word} {m : Mode} → all ≡ [] → WaitingWord w m → Holds m [] (all ++ word 0 p w ∷ [])
   waiting_step p e WaitingWord.goal = (p, ap (λ l. l ++ word 0 p Word.Goal ∷ []) e)
@@ -587,12 +587,12 @@ module _ (names : Names) (b : Bool) where
   waiting_step p e WaitingWord.forget = (p, ap (λ l. l ++ word 0 p Word.Forget ∷ []) e)
   waiting_step p e WaitingWord.discharge = (p, ap (λ l. l ++ word 0 p Word.Discharge ∷ []) e)
   waiting_step p e WaitingWord.save = (p, ap (λ l. l ++ word 0 p Word.Save ∷ []) e)
-  waiting_step p e WaitingWord.assumption = (_, [], Deed.Assumption, ap (λ l. l ++ word 0 p Word.Assumption ∷ []) e, ReadsAct.alone G.LoneWord.assumption, refl)
-  waiting_step p e WaitingWord.kill = (_, [], Deed.KillRef, ap (λ l. l ++ word 0 p Word.KillRef ∷ []) e, ReadsAct.alone G.LoneWord.kill, refl)
-  waiting_step p e WaitingWord.prf = (_, [], Deed.Prf, ap (λ l. l ++ word 0 p Word.Prf ∷ []) e, ReadsAct.alone G.LoneWord.prf, refl)
-  waiting_step p e WaitingWord.ctxt = (_, [], Deed.Ctxt, ap (λ l. l ++ word 0 p Word.Ctxt ∷ []) e, ReadsAct.alone G.LoneWord.ctxt, refl)
-  waiting_step p e WaitingWord.explicit = (_, [], Deed.Explicit, ap (λ l. l ++ word 0 p Word.Explicit ∷ []) e, ReadsAct.alone G.LoneWord.explicit, refl)
-  waiting_step p e WaitingWord.implicit = (_, [], Deed.Implicit, ap (λ l. l ++ word 0 p Word.Implicit ∷ []) e, ReadsAct.alone G.LoneWord.implicit, refl)
+  waiting_step p e WaitingWord.assumption = (_, [], WrittenAct.Assumption, ap (λ l. l ++ word 0 p Word.Assumption ∷ []) e, ReadsAct.alone G.LoneWord.assumption, refl)
+  waiting_step p e WaitingWord.kill = (_, [], WrittenAct.KillRef, ap (λ l. l ++ word 0 p Word.KillRef ∷ []) e, ReadsAct.alone G.LoneWord.kill, refl)
+  waiting_step p e WaitingWord.prf = (_, [], WrittenAct.Prf, ap (λ l. l ++ word 0 p Word.Prf ∷ []) e, ReadsAct.alone G.LoneWord.prf, refl)
+  waiting_step p e WaitingWord.ctxt = (_, [], WrittenAct.Ctxt, ap (λ l. l ++ word 0 p Word.Ctxt ∷ []) e, ReadsAct.alone G.LoneWord.ctxt, refl)
+  waiting_step p e WaitingWord.explicit = (_, [], WrittenAct.Explicit, ap (λ l. l ++ word 0 p Word.Explicit ∷ []) e, ReadsAct.alone G.LoneWord.explicit, refl)
+  waiting_step p e WaitingWord.implicit = (_, [], WrittenAct.Implicit, ap (λ l. l ++ word 0 p Word.Implicit ∷ []) e, ReadsAct.alone G.LoneWord.implicit, refl)
 
   behind_step : {all ws ts : List Nested} {s v w : Written} {f : Frame} {fs gs hs : List Frame} {t : Nested} {m : Mode}
       → closed b v fs ≡ (w, f ∷ gs) → Closes b f w gs t m hs → all ≡ ws ++ ts → Awaits ws fs → Reads names (height fs) Post ts s → v ≡ keep b s
@@ -628,13 +628,13 @@ module _ (names : Names) (b : Bool) where
 
   intros_step : {all ts : List Nested} {ps : List Place} {i : ℕ} {ns : List ℕ} {xs : List NameAt} (p q : Place)
       → ReadsNames names ts xs → ps ≡ places_of xs → i ∷ ns ≡ numbered b (names_of xs) → all ≡ word 0 q Word.Intros ∷ ts
-      → Holds (Done (Deed.Intros ps (i ∷ ns))) [] (all ++ symbol 0 p Semicolon ∷ [])
+      → Holds (Done (WrittenAct.Intros ps (i ∷ ns))) [] (all ++ symbol 0 p Semicolon ∷ [])
   intros_step p q ReadsNames.none l k e = cc
   intros_step {ps = ps} {i} {ns} p q (ReadsNames.more {p = r} {n = n} {ns = ys} g rest) l k e =
       let xs : List NameAt = record { place = r; name = n } ∷ ys in (
-        record { place = q; deed = Deed.Intros (places_of xs) (names_of xs) },
-        commanded p e (subst (λ u. ReadsAct names u (Deed.Intros (places_of xs) (names_of xs))) (sym e) (ReadsAct.intros (ReadsNames.more g rest))),
-        ap (λ u. Deed.Intros u (i ∷ ns)) l ∙ ap (λ u. Deed.Intros (places_of xs) u) k,
+        record { place = q; act = WrittenAct.Intros (places_of xs) (names_of xs) },
+        commanded p e (subst (λ u. ReadsAct names u (WrittenAct.Intros (places_of xs) (names_of xs))) (sym e) (ReadsAct.intros (ReadsNames.more g rest))),
+        ap (λ u. WrittenAct.Intros u (i ∷ ns)) l ∙ ap (λ u. WrittenAct.Intros (places_of xs) u) k,
       )
 
   pub step : (all : List Nested) {m m' : Mode} {fs gs : List Frame} {n : ℕ} {t : Nested}
@@ -657,9 +657,9 @@ module _ (names : Names) (b : Bool) where
   step all h f (Move.binding {fs = g ∷ fs}) = absurd h
   step all h f (Move.context {fs = []} {x = x} {bs = bs} {p = p}) = go h.items h.kept h.reads
     where
-      go : (ys : List Bound) → x ∷ bs ≡ map (kept_bound b) ys → ReadsBindings names all ys ⊎ ((all ≡ []) × (ys ≡ [])) → Holds (Done (Deed.Bindings (x ∷ bs))) [] (all ++ symbol 0 p Semicolon ∷ [])
-      go ys k (inl r) = let y = bindings_token r in (_, commanded p y.2 (ReadsAct.bindings r), ap Deed.Bindings k)
-      go ys k (inr e) = let z = k ∙ ap (map (kept_bound b)) e.1 in cc
+      go : (ys : List WrittenBinding) → x ∷ bs ≡ map (kept_binding b) ys → ReadsBindings names all ys ⊎ ((all ≡ []) × (ys ≡ [])) → Holds (Done (WrittenAct.Bindings (x ∷ bs))) [] (all ++ symbol 0 p Semicolon ∷ [])
+      go ys k (inl r) = let y = bindings_token r in (_, commanded p y.2 (ReadsAct.bindings r), ap WrittenAct.Bindings k)
+      go ys k (inr e) = let z = k ∙ ap (map (kept_binding b)) e.1 in cc
   step all h f (Move.context {fs = g ∷ fs}) = absurd h
   step all h f (Move.show {fs = []} o) = operand_step o (subst (λ k. Awaits k (Whole ToShow ∷ [])) (sym h) (Awaits.whole Begins.show)) f
   step all h f (Move.show {fs = g ∷ fs} o) = absurd h
@@ -702,13 +702,13 @@ module _ (names : Names) (b : Bool) where
   step all h f (Move.next {fs = g ∷ fs}) = absurd h
   step all h f (Move.undo {fs = []}) = act_step _ h.1 (ReadsAct.with_number G.NumberWord.undo) refl
   step all h f (Move.undo {fs = g ∷ fs}) = absurd h
-  step all h f (Move.forget {fs = []} {p = p}) = act_step _ h.1 (ReadsAct.with_name G.NameWord.forget f.1) (ap (λ k. Deed.Forget (record { place = p; name = k })) f.2)
+  step all h f (Move.forget {fs = []} {p = p}) = act_step _ h.1 (ReadsAct.with_name G.NameWord.forget f.1) (ap (λ k. WrittenAct.Forget (record { place = p; name = k })) f.2)
   step all h f (Move.forget {fs = g ∷ fs}) = absurd h
-  step all h f (Move.discharge {fs = []} {p = p}) = act_step _ h.1 (ReadsAct.with_name G.NameWord.discharge f.1) (ap (λ k. Deed.Discharge (record { place = p; name = k })) f.2)
+  step all h f (Move.discharge {fs = []} {p = p}) = act_step _ h.1 (ReadsAct.with_name G.NameWord.discharge f.1) (ap (λ k. WrittenAct.Discharge (record { place = p; name = k })) f.2)
   step all h f (Move.discharge {fs = g ∷ fs}) = absurd h
-  step all h f (Move.save_name {fs = []}) = act_step _ h.1 (ReadsAct.with_name G.NameWord.save f.1) (ap (λ k. Deed.Save (Some k)) f.2)
+  step all h f (Move.save_name {fs = []}) = act_step _ h.1 (ReadsAct.with_name G.NameWord.save f.1) (ap (λ k. WrittenAct.Save (Some k)) f.2)
   step all h f (Move.save_name {fs = g ∷ fs}) = absurd h
-  step all h f (Move.save {fs = []} {p = p}) = (_, commanded p h.1 (subst (λ k. ReadsAct names k (Deed.Save None)) (sym h.1) (ReadsAct.alone G.LoneWord.save)), refl)
+  step all h f (Move.save {fs = []} {p = p}) = (_, commanded p h.1 (subst (λ k. ReadsAct names k (WrittenAct.Save None)) (sym h.1) (ReadsAct.alone G.LoneWord.save)), refl)
   step all h f (Move.save {fs = g ∷ fs}) = absurd h
   step all h f (Move.end {fs = []} {p = p}) = (_, commanded p h.3 (subst (λ k. ReadsAct names k h.2) (sym h.3) h.4), h.5)
   step all h f (Move.end {fs = g ∷ fs}) = absurd h

@@ -10,10 +10,10 @@ use Rattle.lego_lexer.specs.declared.token.Symbol.TheVariants.{OpenSquare, Close
 use Rattle.lego_grammar.specs.declared.surface.Kind.{Kind}
 use Rattle.lego_grammar.specs.declared.surface.Kind.TheVariants.{Lambda}
 use Rattle.lego_grammar.specs.declared.surface.Part.TheVariants.{First, Second}
-use Rattle.lego_grammar.specs.Written.{Written, Named, WrittenProp, AnyType, TypeAt, GoalAt, Couple, Project, Says, Assumed, Defined, Bound, Deed}
+use Rattle.lego_grammar.specs.Written.{Written, Named, WrittenProp, AnyType, TypeAt, GoalAt, Pair, Project, WrittenKind, Assumed, Defined, WrittenBinding, WrittenAct}
 use Rattle.lego_grammar.specs.Grammar.{Names, Nested, token, symbol, word, opening, closing, sign, MayBind}
-use Rattle.lego_grammar.specs.Machine.{Site, InTerm, InContext, Use, ToShow, ToRefine, ToClaim, ToEquiv, ToHead, ToNormal, ToGoal, deed_of, Frame, ApplyTo, HashFrom, ArrowFrom, BodyOf, BodyWith, Parens, SecondOf, TypeOf, DomainOf, ValueOf, StatedFor, Whole, Mode, Start, Want, WantLevel, CloseLevel, Behind, WantPart, WantGoal, WantName, BehindName, Between, BehindGoal, BehindGoalName, WantIntros, WantNext, WantUndo, WantForget, WantDischarge, BehindSave, WantEnd, Done, keep, number, height, settled, summed, closed}
-use Rattle.lego_grammar.specs.Scanning.{class}
+use Rattle.lego_grammar.specs.private.Machine.{Site, InTerm, InContext, Use, ToShow, ToRefine, ToClaim, ToEquiv, ToHead, ToNormal, ToGoal, act_for, Frame, ApplyTo, HashFrom, ArrowFrom, BodyOf, BodyWith, Parens, SecondOf, TypeOf, DomainOf, ValueOf, StatedFor, Whole, Mode, Start, Want, WantLevel, CloseLevel, Behind, WantPart, WantGoal, WantName, BehindName, Between, BehindGoal, BehindGoalName, WantIntros, WantNext, WantUndo, WantForget, WantDischarge, BehindSave, WantEnd, Done, keep, number, height, settled, summed, closed}
+use Rattle.lego_grammar.specs.private.Runs.{class}
 
 -- the binder of a site
 abbrev pub kind_of : Site → Kind
@@ -26,8 +26,8 @@ Applies true (OfSymbol OpenParen) = ⊥
 Applies _ _ = Unit {0}
 
 -- the binding that ends at a `]`
-abbrev pub bound : Place → List Place → List ℕ → Says → Bound
-bound p ps ns says = record { place = p; places = ps; names = ns; says = says }
+abbrev pub binding_at : Place → List Place → List ℕ → WrittenKind → WrittenBinding
+binding_at p ps ns kind = record { place = p; places = ps; names = ns; kind = kind }
 
 -- the words that stand in front of a term, with what it is for
 pub data TermWord : Word → Use → Type 0 where
@@ -46,12 +46,12 @@ pub data WaitingWord : Word → Mode → Type 0 where
   forget : WaitingWord Word.Forget WantForget
   discharge : WaitingWord Word.Discharge WantDischarge
   save : WaitingWord Word.Save BehindSave
-  assumption : WaitingWord Word.Assumption (WantEnd Deed.Assumption)
-  kill : WaitingWord Word.KillRef (WantEnd Deed.KillRef)
-  prf : WaitingWord Word.Prf (WantEnd Deed.Prf)
-  ctxt : WaitingWord Word.Ctxt (WantEnd Deed.Ctxt)
-  explicit : WaitingWord Word.Explicit (WantEnd Deed.Explicit)
-  implicit : WaitingWord Word.Implicit (WantEnd Deed.Implicit)
+  assumption : WaitingWord Word.Assumption (WantEnd WrittenAct.Assumption)
+  kill : WaitingWord Word.KillRef (WantEnd WrittenAct.KillRef)
+  prf : WaitingWord Word.Prf (WantEnd WrittenAct.Prf)
+  ctxt : WaitingWord Word.Ctxt (WantEnd WrittenAct.Ctxt)
+  explicit : WaitingWord Word.Explicit (WantEnd WrittenAct.Explicit)
+  implicit : WaitingWord Word.Implicit (WantEnd WrittenAct.Implicit)
 
 module _ (b : Bool) where
   -- an operand begins
@@ -69,21 +69,21 @@ module _ (b : Bool) where
     parens : {v : Written} {fs : List Frame} {p : Place} → Closes Parens v fs (symbol (height fs) p CloseParen) (Behind false v) fs
     comma : {v : Written} {fs : List Frame} {p : Place} → Closes Parens v fs (symbol (suc (height fs)) p Comma) Want (SecondOf v ∷ fs)
     colon : {m v : Written} {fs : List Frame} {p : Place} → Closes (SecondOf m) v fs (symbol (suc (height fs)) p Colon) Want (TypeOf m v ∷ fs)
-    couple : {m n v : Written} {fs : List Frame} {p : Place}
-        → Closes (TypeOf m n) v fs (symbol (height fs) p CloseParen) (Behind false (keep b (Couple m n v))) fs
+    pair : {m n v : Written} {fs : List Frame} {p : Place}
+        → Closes (TypeOf m n) v fs (symbol (height fs) p CloseParen) (Behind false (keep b (Pair m n v))) fs
     domain : {k : Kind} {m : Mark} {ps : List Place} {ns : List ℕ} {v : Written} {fs : List Frame} {p : Place}
         → Closes (DomainOf (InTerm k) m ps ns) v fs (symbol (height fs) p (closing k)) Want (BodyOf k m ns v ∷ fs)
-    assumption : {q : Place} {bs : List Bound} {m : Mark} {ps : List Place} {ns : List ℕ} {v : Written} {fs : List Frame} {p : Place}
-        → Closes (DomainOf (InContext q bs) m ps ns) v fs (symbol (height fs) p CloseSquare) (Between (bs ++ bound q ps ns (Assumed m v) ∷ [])) fs
+    assumption : {q : Place} {bs : List WrittenBinding} {m : Mark} {ps : List Place} {ns : List ℕ} {v : Written} {fs : List Frame} {p : Place}
+        → Closes (DomainOf (InContext q bs) m ps ns) v fs (symbol (height fs) p CloseSquare) (Between (bs ++ binding_at q ps ns (Assumed m v) ∷ [])) fs
     value : {k : Kind} {q : Place} {n : ℕ} {v : Written} {fs : List Frame} {p : Place}
         → Closes (ValueOf (InTerm k) q n) v fs (symbol (height fs) p CloseSquare) Want (BodyWith n v ∷ fs)
-    definition : {r q : Place} {bs : List Bound} {n : ℕ} {v : Written} {fs : List Frame} {p : Place}
-        → Closes (ValueOf (InContext r bs) q n) v fs (symbol (height fs) p CloseSquare) (Between (bs ++ bound r (q ∷ []) (n ∷ []) (Defined v None) ∷ [])) fs
-    typed : {r q : Place} {bs : List Bound} {n : ℕ} {v : Written} {fs : List Frame} {p : Place}
+    definition : {r q : Place} {bs : List WrittenBinding} {n : ℕ} {v : Written} {fs : List Frame} {p : Place}
+        → Closes (ValueOf (InContext r bs) q n) v fs (symbol (height fs) p CloseSquare) (Between (bs ++ binding_at r (q ∷ []) (n ∷ []) (Defined v None) ∷ [])) fs
+    typed : {r q : Place} {bs : List WrittenBinding} {n : ℕ} {v : Written} {fs : List Frame} {p : Place}
         → Closes (ValueOf (InContext r bs) q n) v fs (symbol (suc (height fs)) p Colon) Want (StatedFor r bs q n v ∷ fs)
-    stated : {r q : Place} {bs : List Bound} {n : ℕ} {m v : Written} {fs : List Frame} {p : Place}
-        → Closes (StatedFor r bs q n m) v fs (symbol (height fs) p CloseSquare) (Between (bs ++ bound r (q ∷ []) (n ∷ []) (Defined m (Some v)) ∷ [])) fs
-    whole : {u : Use} {v : Written} {fs : List Frame} {p : Place} → Closes (Whole u) v fs (symbol (height fs) p Semicolon) (Done (deed_of u v)) fs
+    stated : {r q : Place} {bs : List WrittenBinding} {n : ℕ} {m v : Written} {fs : List Frame} {p : Place}
+        → Closes (StatedFor r bs q n m) v fs (symbol (height fs) p CloseSquare) (Between (bs ++ binding_at r (q ∷ []) (n ∷ []) (Defined m (Some v)) ∷ [])) fs
+    whole : {u : Use} {v : Written} {fs : List Frame} {p : Place} → Closes (Whole u) v fs (symbol (height fs) p Semicolon) (Done (act_for u v)) fs
 
   -- a token behind a mode over frames, with the number of the name that it is
   pub data Move : Mode → List Frame → Nested → ℕ → Mode → List Frame → Type 0 where
@@ -117,8 +117,8 @@ module _ (b : Bool) where
     equals : {site : Site} {q : Place} {i : ℕ} {fs : List Frame} {p : Place} {n : ℕ}
         → kind_of site ≡ Lambda
         → Move (BehindName site (q ∷ []) (i ∷ [])) fs (symbol (suc (height fs)) p Equals) n Want (ValueOf site q i ∷ fs)
-    binding : {fs : List Frame} {bs : List Bound} {p : Place} {n : ℕ} → Move (Between bs) fs (symbol (height fs) p OpenSquare) n (WantName (InContext p bs) [] []) fs
-    context : {fs : List Frame} {x : Bound} {bs : List Bound} {p : Place} {n : ℕ} → Move (Between (x ∷ bs)) fs (symbol (height fs) p Semicolon) n (Done (Deed.Bindings (x ∷ bs))) fs
+    binding : {fs : List Frame} {bs : List WrittenBinding} {p : Place} {n : ℕ} → Move (Between bs) fs (symbol (height fs) p OpenSquare) n (WantName (InContext p bs) [] []) fs
+    context : {fs : List Frame} {x : WrittenBinding} {bs : List WrittenBinding} {p : Place} {n : ℕ} → Move (Between (x ∷ bs)) fs (symbol (height fs) p Semicolon) n (Done (WrittenAct.Bindings (x ∷ bs))) fs
     show : {fs : List Frame} {t : Nested} {n : ℕ} {m : Mode} {gs : List Frame} → Operand (Whole ToShow ∷ fs) t n m gs → Move Start fs t n m gs
     term_word : {fs : List Frame} {p : Place} {w : Word} {u : Use} {n : ℕ} → TermWord w u → Move Start fs (word (height fs) p w) n Want (Whole u ∷ fs)
     waiting_word : {fs : List Frame} {p : Place} {w : Word} {m : Mode} {n : ℕ} → WaitingWord w m → Move Start fs (word (height fs) p w) n m fs
@@ -131,14 +131,14 @@ module _ (b : Bool) where
     intros_name : {fs : List Frame} {ps : List Place} {ns : List ℕ} {p : Place} {n : ℕ} {text : List ℕ}
         → Move (WantIntros ps ns) fs (token (height fs) p (Name text)) n (WantIntros (ps ++ p ∷ []) (ns ++ n ∷ [])) fs
     intros_end : {fs : List Frame} {ps : List Place} {i : ℕ} {ns : List ℕ} {p : Place} {n : ℕ}
-        → Move (WantIntros ps (i ∷ ns)) fs (symbol (height fs) p Semicolon) n (Done (Deed.Intros ps (i ∷ ns))) fs
-    next : {fs : List Frame} {p : Place} {i n : ℕ} → Move WantNext fs (token (height fs) p (Number i)) n (WantEnd (Deed.Next i)) fs
-    undo : {fs : List Frame} {p : Place} {i n : ℕ} → Move WantUndo fs (token (height fs) p (Number i)) n (WantEnd (Deed.Undo i)) fs
-    forget : {fs : List Frame} {p : Place} {n : ℕ} {text : List ℕ} → Move WantForget fs (token (height fs) p (Name text)) n (WantEnd (Deed.Forget (record { place = p; name = n }))) fs
-    discharge : {fs : List Frame} {p : Place} {n : ℕ} {text : List ℕ} → Move WantDischarge fs (token (height fs) p (Name text)) n (WantEnd (Deed.Discharge (record { place = p; name = n }))) fs
-    save_name : {fs : List Frame} {p : Place} {n : ℕ} {text : List ℕ} → Move BehindSave fs (token (height fs) p (Name text)) n (WantEnd (Deed.Save (Some n))) fs
-    save : {fs : List Frame} {p : Place} {n : ℕ} → Move BehindSave fs (symbol (height fs) p Semicolon) n (Done (Deed.Save None)) fs
-    end : {fs : List Frame} {deed : Deed} {p : Place} {n : ℕ} → Move (WantEnd deed) fs (symbol (height fs) p Semicolon) n (Done deed) fs
+        → Move (WantIntros ps (i ∷ ns)) fs (symbol (height fs) p Semicolon) n (Done (WrittenAct.Intros ps (i ∷ ns))) fs
+    next : {fs : List Frame} {p : Place} {i n : ℕ} → Move WantNext fs (token (height fs) p (Number i)) n (WantEnd (WrittenAct.Next i)) fs
+    undo : {fs : List Frame} {p : Place} {i n : ℕ} → Move WantUndo fs (token (height fs) p (Number i)) n (WantEnd (WrittenAct.Undo i)) fs
+    forget : {fs : List Frame} {p : Place} {n : ℕ} {text : List ℕ} → Move WantForget fs (token (height fs) p (Name text)) n (WantEnd (WrittenAct.Forget (record { place = p; name = n }))) fs
+    discharge : {fs : List Frame} {p : Place} {n : ℕ} {text : List ℕ} → Move WantDischarge fs (token (height fs) p (Name text)) n (WantEnd (WrittenAct.Discharge (record { place = p; name = n }))) fs
+    save_name : {fs : List Frame} {p : Place} {n : ℕ} {text : List ℕ} → Move BehindSave fs (token (height fs) p (Name text)) n (WantEnd (WrittenAct.Save (Some n))) fs
+    save : {fs : List Frame} {p : Place} {n : ℕ} → Move BehindSave fs (symbol (height fs) p Semicolon) n (Done (WrittenAct.Save None)) fs
+    end : {fs : List Frame} {act : WrittenAct} {p : Place} {n : ℕ} → Move (WantEnd act) fs (symbol (height fs) p Semicolon) n (Done act) fs
 
 -- the number that the machine is given with a token
 abbrev pub Fits : Names → Bool → Lexeme → ℕ → Type 0

@@ -1,5 +1,5 @@
 -- The grammar: which commands a list of tokens is read as, and how deep each token is nested.
-use Rattle.std.specs.Prelude.{◌≡◌, ℕ, suc, ◌<◌, List, [], ◌∷◌, ◌++◌, map, take, length, Some, None, slice_get}
+use Rattle.std.specs.Prelude.{◌≡◌, ℕ, suc, List, [], ◌∷◌, ◌++◌, map, Some, None, slice_get}
 use Rattle.lego_base.specs.declared.place.Place.{Place}
 use Rattle.lego_term.specs.declared.binder.Mark.{Mark}
 use Rattle.lego_term.specs.declared.binder.Mark.TheVariants.{Plain, Implicit}
@@ -11,7 +11,7 @@ use Rattle.lego_lexer.specs.declared.token.Symbol.TheVariants.{OpenSquare, Close
 use Rattle.lego_grammar.specs.declared.surface.Kind.{Kind}
 use Rattle.lego_grammar.specs.declared.surface.Kind.TheVariants.{Lambda, Pi, Sigma}
 use Rattle.lego_grammar.specs.declared.surface.Part.TheVariants.{First, Second}
-use Rattle.lego_grammar.specs.Written.{Written, Named, WrittenProp, AnyType, TypeAt, GoalAt, Bind, Local, Apply, Couple, Project, NameAt, Assumed, Defined, Bound, Deed, Order}
+use Rattle.lego_grammar.specs.Written.{Written, Named, WrittenProp, AnyType, TypeAt, GoalAt, Bind, Local, Apply, Pair, Project, NameAt, Assumed, Defined, WrittenBinding, WrittenAct, WrittenCommand}
 
 -- A numbering of names: the text of name n stands at n.
 abbrev pub Names : Type 0
@@ -108,11 +108,11 @@ pub data Reads (names : Names) : ℕ → Form → List Nested → Written → Ty
   goal : {d n : ℕ} (p q : Place) → Reads names d Atom (symbol d p Question ∷ token d q (Number n) ∷ []) (GoalAt p n)
   parens : {d : ℕ} (p q : Place) {ts : List Nested} {s : Written}
       → Reads names (suc d) Term ts s → Reads names d Atom (symbol d p OpenParen ∷ ts ++ symbol d q CloseParen ∷ []) s
-  couple : {d : ℕ} (p q r s : Place) {ts us vs : List Nested} {m n a : Written}
+  pair : {d : ℕ} (p q r s : Place) {ts us vs : List Nested} {m n a : Written}
       → Reads names (suc d) Term ts m → Reads names (suc d) Term us n → Reads names (suc d) Term vs a
       → Reads names d Atom
       (symbol d p OpenParen ∷ ts ++ symbol (suc d) q Comma ∷ us ++ symbol (suc d) r Colon ∷ vs ++ symbol d s CloseParen ∷ [])
-      (Couple m n a)
+      (Pair m n a)
   bind : {d : ℕ} (p q r : Place) {kind : Kind} {mark : Mark} {ns ts us : List Nested} {xs : List NameAt} {a m : Written}
       → MayBind kind mark → NameList names (suc d) ns xs → Reads names (suc d) Term ts a → Reads names (suc d) Term us m
       → Reads names d Binder
@@ -125,26 +125,26 @@ pub data Reads (names : Names) : ℕ → Form → List Nested → Written → Ty
       (Local n m b)
 
 -- one binding of a context command
-pub data ReadsBinding (names : Names) : List Nested → Bound → Type 0 where
+pub data ReadsBinding (names : Names) : List Nested → WrittenBinding → Type 0 where
   assume : (p q r : Place) {mark : Mark} {ns ts : List Nested} {xs : List NameAt} {a : Written}
       → NameList names 1 ns xs → Reads names 1 Term ts a
       → ReadsBinding names
       (symbol 0 p OpenSquare ∷ ns ++ symbol 1 q (sign mark) ∷ ts ++ symbol 0 r CloseSquare ∷ [])
-      (record { place = p; places = places_of xs; names = names_of xs; says = Assumed mark a })
+      (record { place = p; places = places_of xs; names = names_of xs; kind = Assumed mark a })
   define : (p q r s : Place) {n : ℕ} {text : List ℕ} {ts : List Nested} {m : Written}
       → slice_get names n ≡ Some text → Reads names 1 Term ts m
       → ReadsBinding names
       (symbol 0 p OpenSquare ∷ token 1 q (Name text) ∷ symbol 1 r Equals ∷ ts ++ symbol 0 s CloseSquare ∷ [])
-      (record { place = p; places = q ∷ []; names = n ∷ []; says = Defined m None })
+      (record { place = p; places = q ∷ []; names = n ∷ []; kind = Defined m None })
   define_typed : (p q r s t : Place) {n : ℕ} {text : List ℕ} {ts us : List Nested} {m a : Written}
       → slice_get names n ≡ Some text → Reads names 1 Term ts m → Reads names 1 Term us a
       → ReadsBinding names
       (symbol 0 p OpenSquare ∷ token 1 q (Name text) ∷ symbol 1 r Equals ∷ ts ++ symbol 1 s Colon ∷ us ++ symbol 0 t CloseSquare ∷ [])
-      (record { place = p; places = q ∷ []; names = n ∷ []; says = Defined m (Some a) })
+      (record { place = p; places = q ∷ []; names = n ∷ []; kind = Defined m (Some a) })
 
-pub data ReadsBindings (names : Names) : List Nested → List Bound → Type 0 where
-  one : {ts : List Nested} {b : Bound} → ReadsBinding names ts b → ReadsBindings names ts (b ∷ [])
-  more : {ts us : List Nested} {b : Bound} {bs : List Bound}
+pub data ReadsBindings (names : Names) : List Nested → List WrittenBinding → Type 0 where
+  one : {ts : List Nested} {b : WrittenBinding} → ReadsBinding names ts b → ReadsBindings names ts (b ∷ [])
+  more : {ts us : List Nested} {b : WrittenBinding} {bs : List WrittenBinding}
       → ReadsBinding names ts b → ReadsBindings names us bs → ReadsBindings names (ts ++ us) (b ∷ bs)
 
 -- names one after the other
@@ -155,55 +155,55 @@ pub data ReadsNames (names : Names) : List Nested → List NameAt → Type 0 whe
       → ReadsNames names (token 0 p (Name text) ∷ ts) (record { place = p; name = n } ∷ ns)
 
 -- the words with a term behind them, with a numeral, with a name, and alone
-pub data TermWord : Word → (Written → Deed) → Type 0 where
-  refine : TermWord Word.Refine Deed.Refine
-  claim : TermWord Word.Claim Deed.Claim
-  equiv : TermWord Word.Equiv Deed.Equiv
-  hnf : TermWord Word.Hnf Deed.Hnf
-  normal : TermWord Word.Normal Deed.Normal
-  goal : TermWord Word.Goal (Deed.Goal None)
+pub data TermWord : Word → (Written → WrittenAct) → Type 0 where
+  refine : TermWord Word.Refine WrittenAct.Refine
+  claim : TermWord Word.Claim WrittenAct.Claim
+  equiv : TermWord Word.Equiv WrittenAct.Equiv
+  hnf : TermWord Word.Hnf WrittenAct.Hnf
+  normal : TermWord Word.Normal WrittenAct.Normal
+  goal : TermWord Word.Goal (WrittenAct.Goal None)
 
-pub data NumberWord : Word → (ℕ → Deed) → Type 0 where
-  next : NumberWord Word.Next Deed.Next
-  undo : NumberWord Word.Undo Deed.Undo
+pub data NumberWord : Word → (ℕ → WrittenAct) → Type 0 where
+  next : NumberWord Word.Next WrittenAct.Next
+  undo : NumberWord Word.Undo WrittenAct.Undo
 
-pub data NameWord : Word → (NameAt → Deed) → Type 0 where
-  forget : NameWord Word.Forget Deed.Forget
-  discharge : NameWord Word.Discharge Deed.Discharge
-  save : NameWord Word.Save (λ x. Deed.Save (Some x.name))
+pub data NameWord : Word → (NameAt → WrittenAct) → Type 0 where
+  forget : NameWord Word.Forget WrittenAct.Forget
+  discharge : NameWord Word.Discharge WrittenAct.Discharge
+  save : NameWord Word.Save (λ x. WrittenAct.Save (Some x.name))
 
-pub data LoneWord : Word → Deed → Type 0 where
-  assumption : LoneWord Word.Assumption Deed.Assumption
-  save : LoneWord Word.Save (Deed.Save None)
-  kill : LoneWord Word.KillRef Deed.KillRef
-  prf : LoneWord Word.Prf Deed.Prf
-  ctxt : LoneWord Word.Ctxt Deed.Ctxt
-  explicit : LoneWord Word.Explicit Deed.Explicit
-  implicit : LoneWord Word.Implicit Deed.Implicit
+pub data LoneWord : Word → WrittenAct → Type 0 where
+  assumption : LoneWord Word.Assumption WrittenAct.Assumption
+  save : LoneWord Word.Save (WrittenAct.Save None)
+  kill : LoneWord Word.KillRef WrittenAct.KillRef
+  prf : LoneWord Word.Prf WrittenAct.Prf
+  ctxt : LoneWord Word.Ctxt WrittenAct.Ctxt
+  explicit : LoneWord Word.Explicit WrittenAct.Explicit
+  implicit : LoneWord Word.Implicit WrittenAct.Implicit
 
 -- a command without its `;`
-pub data ReadsAct (names : Names) : List Nested → Deed → Type 0 where
-  bindings : {ts : List Nested} {bs : List Bound} → ReadsBindings names ts bs → ReadsAct names ts (Deed.Bindings bs)
-  show : {ts : List Nested} {s : Written} → Reads names 0 Term ts s → ReadsAct names ts (Deed.Show s)
-  with_term : {p : Place} {w : Word} {deed : Written → Deed} {ts : List Nested} {s : Written}
-      → TermWord w deed → Reads names 0 Term ts s → ReadsAct names (word 0 p w ∷ ts) (deed s)
+pub data ReadsAct (names : Names) : List Nested → WrittenAct → Type 0 where
+  bindings : {ts : List Nested} {bs : List WrittenBinding} → ReadsBindings names ts bs → ReadsAct names ts (WrittenAct.Bindings bs)
+  show : {ts : List Nested} {s : Written} → Reads names 0 Term ts s → ReadsAct names ts (WrittenAct.Show s)
+  with_term : {p : Place} {w : Word} {act : Written → WrittenAct} {ts : List Nested} {s : Written}
+      → TermWord w act → Reads names 0 Term ts s → ReadsAct names (word 0 p w ∷ ts) (act s)
   named_goal : {p q r : Place} {n : ℕ} {text : List ℕ} {ts : List Nested} {s : Written}
       → slice_get names n ≡ Some text → Reads names 0 Term ts s
-      → ReadsAct names (word 0 p Word.Goal ∷ token 0 q (Name text) ∷ symbol 0 r Colon ∷ ts) (Deed.Goal (Some n) s)
+      → ReadsAct names (word 0 p Word.Goal ∷ token 0 q (Name text) ∷ symbol 0 r Colon ∷ ts) (WrittenAct.Goal (Some n) s)
   intros : {p : Place} {t : Nested} {ts : List Nested} {ns : List NameAt}
-      → ReadsNames names (t ∷ ts) ns → ReadsAct names (word 0 p Word.Intros ∷ t ∷ ts) (Deed.Intros (places_of ns) (names_of ns))
-  with_number : {p q : Place} {w : Word} {deed : ℕ → Deed} {n : ℕ}
-      → NumberWord w deed → ReadsAct names (word 0 p w ∷ token 0 q (Number n) ∷ []) (deed n)
-  with_name : {p q : Place} {w : Word} {deed : NameAt → Deed} {n : ℕ} {text : List ℕ}
-      → NameWord w deed → slice_get names n ≡ Some text
-      → ReadsAct names (word 0 p w ∷ token 0 q (Name text) ∷ []) (deed (record { place = q; name = n }))
-  alone : {p : Place} {w : Word} {deed : Deed} → LoneWord w deed → ReadsAct names (word 0 p w ∷ []) deed
+      → ReadsNames names (t ∷ ts) ns → ReadsAct names (word 0 p Word.Intros ∷ t ∷ ts) (WrittenAct.Intros (places_of ns) (names_of ns))
+  with_number : {p q : Place} {w : Word} {act : ℕ → WrittenAct} {n : ℕ}
+      → NumberWord w act → ReadsAct names (word 0 p w ∷ token 0 q (Number n) ∷ []) (act n)
+  with_name : {p q : Place} {w : Word} {act : NameAt → WrittenAct} {n : ℕ} {text : List ℕ}
+      → NameWord w act → slice_get names n ≡ Some text
+      → ReadsAct names (word 0 p w ∷ token 0 q (Name text) ∷ []) (act (record { place = q; name = n }))
+  alone : {p : Place} {w : Word} {act : WrittenAct} → LoneWord w act → ReadsAct names (word 0 p w ∷ []) act
 
 -- a command, which begins at its first token
-pub data ReadsCommand (names : Names) : List Nested → Order → Type 0 where
-  command : {t : Nested} {ts : List Nested} {deed : Deed} (p : Place)
-      → ReadsAct names (t ∷ ts) deed
-      → ReadsCommand names (t ∷ ts ++ symbol 0 p Semicolon ∷ []) (record { place = t.place; deed = deed })
+pub data ReadsCommand (names : Names) : List Nested → WrittenCommand → Type 0 where
+  command : {t : Nested} {ts : List Nested} {act : WrittenAct} (p : Place)
+      → ReadsAct names (t ∷ ts) act
+      → ReadsCommand names (t ∷ ts ++ symbol 0 p Semicolon ∷ []) (record { place = t.place; act = act })
 
 -- a token at its place
 pub record Item : Type 0 where
@@ -218,58 +218,12 @@ abbrev pub item : Nested → Item
 item t = record { lexeme = t.lexeme; place = t.place }
 
 -- the tokens are read as the command
-pub record Parses (names : Names) (tokens : List Item) (c : Order) : Type 0 where
+pub record Parses (names : Names) (tokens : List Item) (c : WrittenCommand) : Type 0 where
   pub nested : List Nested
   pub same : map item nested ≡ tokens
   pub reads : ReadsCommand names nested c
 
--- some command begins with these tokens, under some numbering
-abbrev pub GoesOn : List Item → Type 0
-GoesOn tokens = (names : Names) × (more : List Item) × (c : Order) × Parses names (tokens ++ more) c
-
--- token n is the first one after which no reading exists
-pub record IsUnexpected (tokens : List Item) (n : ℕ) : Type 0 where
-  pub before : GoesOn (take n tokens)
-  pub behind : GoesOn (take (suc n) tokens) → ⊥
-
-abbrev pub IsContext : Deed → Type 0
-IsContext (Deed.Bindings bs) = Unit {0}
+-- a context command
+abbrev pub IsContext : WrittenAct → Type 0
+IsContext (WrittenAct.Bindings bs) = Unit {0}
 IsContext _ = ⊥
-
--- A context command begins with the tokens, and a `;` behind them makes no command: they end inside a binding, or there are none
--- yet, or they are a whole command.
-pub record EndsInBinding (tokens : List Item) : Type 0 where
-  pub names : Names
-  pub more : List Item
-  pub command : Order
-  pub is_context : IsContext command.deed
-  pub begins : Parses names (tokens ++ more) command
-  pub inside : (ns : Names) (p : Place) (c : Order) → Parses ns (tokens ++ record { lexeme = OfSymbol Semicolon; place = p } ∷ []) c → ⊥
-
--- Tokens behind which no reading exists are nested as in a context where they end inside a binding, and where only contexts
--- begin with them, as behind `[x=M:T]`; else as in a command that is no context command.
-pub data Prevails (tokens : List Item) : Deed → Type 0 where
-  in_binding : {deed : Deed} → IsContext deed → EndsInBinding tokens → Prevails tokens deed
-  alone : {deed : Deed}
-      → IsContext deed
-      → ((names : Names) (more : List Item) (c : Order) → Parses names (tokens ++ more) c → IsContext c.deed) → Prevails tokens deed
-  other : {deed : Deed} → (IsContext deed → ⊥) → (EndsInBinding tokens → ⊥) → Prevails tokens deed
-
--- How a command's tokens are nested: as the command that they are; where they are none, those before the first token
--- without a reading as in a command that begins with them, and that token as deep as one that may stand there.
-pub data NestedSo (tokens : List Item) : List Nested → Type 0 where
-  read : {names : Names} {nested : List Nested} {c : Order}
-      → map item nested ≡ tokens → ReadsCommand names nested c → NestedSo tokens nested
-  unread : {names : Names} (nested more : List Nested) (next : Nested) {c : Order}
-      → IsUnexpected tokens (length nested) → map item nested ≡ take (length nested) tokens
-      → Prevails (take (length nested) tokens) c.deed → ReadsCommand names (nested ++ next ∷ more) c
-      → NestedSo tokens (nested ++ next ∷ [])
-
--- token n is the first of nesting 501
-pub record IsTooDeep (tokens : List Item) (n : ℕ) : Type 0 where
-  pub nested : List Nested
-  pub so : NestedSo tokens nested
-  pub token : Nested
-  pub there : slice_get nested n ≡ Some token
-  pub deep : token.nesting ≡ 501
-  pub first : (i : ℕ) (t : Nested) → i < n → slice_get nested i ≡ Some t → t.nesting < 501

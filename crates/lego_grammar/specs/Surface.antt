@@ -1,7 +1,7 @@
 -- The plain tree of a written term, in which each argument and each projection is a node of its own.
 use Rattle.std.specs.Prelude.{List, [], ◌∷◌, option_map, map}
 use Rattle.lego_term.specs.declared.binder.Mark.{Mark}
-use Rattle.lego_grammar.specs.Written.{Written, Named, WrittenProp, AnyType as WrittenType, TypeAt as WrittenAt, GoalAt, Bind as Binds, Local as Locally, Apply as Applies, Couple, Project as Projects, Says, Assumed, Defined, Bound, Deed, Order}
+use Rattle.lego_grammar.specs.Written.{Written, Named, WrittenProp, AnyType as WrittenType, TypeAt as WrittenAt, GoalAt, Bind as Binds, Local as Locally, Apply as Applies, Pair as Pairs, Project as Projects, WrittenKind, Assumed, Defined, WrittenBinding, WrittenAct, WrittenCommand}
 use Rattle.lego_grammar.specs.declared.surface.Part.{Part}
 use Rattle.lego_grammar.specs.declared.surface.Surface.{Surface}
 use Rattle.lego_grammar.specs.declared.surface.Surface.TheOpen.{Surface-F, Name, Prop, AnyType, TypeAt, Hole, Bind, Local, Apply, Pair, Project}
@@ -32,41 +32,41 @@ written_step (Hole p n) = GoalAt p n
 written_step (Bind k m ns a b) = Binds k m ns a b
 written_step (Local n a b) = Locally n a b
 written_step (Apply f xs) = applied f xs
-written_step (Pair m n a) = Couple m n a
+written_step (Pair m n a) = Pairs m n a
 written_step (Project m parts) = projected m parts
 
 abbrev pub written : Surface → Written
 written = fold-Surface Written written_step
 
-abbrev pub says_of : BindingKind → Says
-says_of (Assume mark ty) = Assumed mark (written ty)
-says_of (Define body ty) = Defined (written body) (option_map written ty)
+abbrev pub written_kind : BindingKind → WrittenKind
+written_kind (Assume mark ty) = Assumed mark (written ty)
+written_kind (Define body ty) = Defined (written body) (option_map written ty)
 
-abbrev pub bound_of : Binding → Bound
-bound_of b = record { place = b.place; places = b.places; names = b.names; says = says_of b.kind }
+abbrev pub written_binding : Binding → WrittenBinding
+written_binding b = record { place = b.place; places = b.places; names = b.names; kind = written_kind b.kind }
 
-abbrev pub deed_of_act : Act → Deed
-deed_of_act (Act.Bind bindings) = Deed.Bindings (map bound_of bindings)
-deed_of_act (Act.Goal name ty) = Deed.Goal name (written ty)
-deed_of_act (Act.Intros places names) = Deed.Intros places names
-deed_of_act (Act.Refine term) = Deed.Refine (written term)
-deed_of_act (Act.Claim ty) = Deed.Claim (written ty)
-deed_of_act (Act.Next n) = Deed.Next n
-deed_of_act Act.Assumption = Deed.Assumption
-deed_of_act (Act.Equiv ty) = Deed.Equiv (written ty)
-deed_of_act (Act.Save name) = Deed.Save name
-deed_of_act Act.KillRef = Deed.KillRef
-deed_of_act (Act.Undo n) = Deed.Undo n
-deed_of_act (Act.Forget place name) = Deed.Forget (record { place = place; name = name })
-deed_of_act (Act.Discharge place name) = Deed.Discharge (record { place = place; name = name })
-deed_of_act Act.Prf = Deed.Prf
-deed_of_act Act.Ctxt = Deed.Ctxt
-deed_of_act (Act.Hnf term) = Deed.Hnf (written term)
-deed_of_act (Act.Normal term) = Deed.Normal (written term)
-deed_of_act Act.Explicit = Deed.Explicit
-deed_of_act Act.Implicit = Deed.Implicit
-deed_of_act (Act.Show term) = Deed.Show (written term)
+abbrev pub written_act : Act → WrittenAct
+written_act (Act.Bind bindings) = WrittenAct.Bindings (map written_binding bindings)
+written_act (Act.Goal name ty) = WrittenAct.Goal name (written ty)
+written_act (Act.Intros places names) = WrittenAct.Intros places names
+written_act (Act.Refine term) = WrittenAct.Refine (written term)
+written_act (Act.Claim ty) = WrittenAct.Claim (written ty)
+written_act (Act.Next n) = WrittenAct.Next n
+written_act Act.Assumption = WrittenAct.Assumption
+written_act (Act.Equiv ty) = WrittenAct.Equiv (written ty)
+written_act (Act.Save name) = WrittenAct.Save name
+written_act Act.KillRef = WrittenAct.KillRef
+written_act (Act.Undo n) = WrittenAct.Undo n
+written_act (Act.Forget place name) = WrittenAct.Forget (record { place = place; name = name })
+written_act (Act.Discharge place name) = WrittenAct.Discharge (record { place = place; name = name })
+written_act Act.Prf = WrittenAct.Prf
+written_act Act.Ctxt = WrittenAct.Ctxt
+written_act (Act.Hnf term) = WrittenAct.Hnf (written term)
+written_act (Act.Normal term) = WrittenAct.Normal (written term)
+written_act Act.Explicit = WrittenAct.Explicit
+written_act Act.Implicit = WrittenAct.Implicit
+written_act (Act.Show term) = WrittenAct.Show (written term)
 
 -- the command as the grammar speaks of it
-abbrev pub order_of : Command → Order
-order_of c = record { place = c.place; deed = deed_of_act c.act }
+abbrev pub written_command : Command → WrittenCommand
+written_command c = record { place = c.place; act = written_act c.act }

@@ -15,7 +15,7 @@ pub data Written : Type 0 where
   Bind : Kind → Mark → List ℕ → Written → Written → Written
   Local : ℕ → Written → Written → Written
   Apply : Mark → Written → Written → Written
-  Couple : Written → Written → Written → Written
+  Pair : Written → Written → Written → Written
   Project : Part → Written → Written
 
 -- a name at its place
@@ -24,28 +24,28 @@ pub record NameAt : Type 0 where
   pub name : ℕ
 
 -- what a binding of a context command says of its names
-pub data Says : Type 0 where
-  Assumed : Mark → Written → Says
-  Defined : Written → Option Written → Says
+pub data WrittenKind : Type 0 where
+  Assumed : Mark → Written → WrittenKind
+  Defined : Written → Option Written → WrittenKind
 
 -- one binding of a context command, at its `[`, with the places of its names
-pub record Bound : Type 0 where
+pub record WrittenBinding : Type 0 where
   pub place : Place
   pub places : List Place
   pub names : List ℕ
-  pub says : Says
+  pub kind : WrittenKind
 
-pub data Deed : Type 0 where
-  Bindings : List Bound → Deed
-  Goal : Option ℕ → Written → Deed
-  Intros : List Place → List ℕ → Deed
-  Refine Claim Equiv Hnf Normal Show : Written → Deed
-  Next Undo : ℕ → Deed
-  Assumption KillRef Prf Ctxt Explicit Implicit : Deed
-  Save : Option ℕ → Deed
-  Forget Discharge : NameAt → Deed
+pub data WrittenAct : Type 0 where
+  Bindings : List WrittenBinding → WrittenAct
+  Goal : Option ℕ → Written → WrittenAct
+  Intros : List Place → List ℕ → WrittenAct
+  Refine Claim Equiv Hnf Normal Show : Written → WrittenAct
+  Next Undo : ℕ → WrittenAct
+  Assumption KillRef Prf Ctxt Explicit Implicit : WrittenAct
+  Save : Option ℕ → WrittenAct
+  Forget Discharge : NameAt → WrittenAct
 
 -- a command, at its first token
-pub record Order : Type 0 where
+pub record WrittenCommand : Type 0 where
   pub place : Place
-  pub deed : Deed
+  pub act : WrittenAct

@@ -12,7 +12,7 @@ use Rattle.lego_term.specs.declared.binder.Mark.{Mark}
 use Rattle.lego_laws.specs.Entries.{entry_at, entries_at, entry_of, constant_of, core_bodies, IsHeld}
 use Rattle.lego_laws.specs.Judgement.{Valid, Has, empty, grow_constant, grow_variable, ax, universe, constant, pi_type, cumulative}
 use Rattle.lego_laws.specs.Valid.{AreValid, AlwaysValid}
-use Rattle.lego_laws.specs.RuleTypes.{RuleType, HasRuleType}
+use Rattle.lego_laws.specs.RuleTypes.{RuleType}
 use Rattle.lego_laws.specs.RuleTypes as rule_types
 use Rattle.lego_laws.specs.Places.{Fulfils, AType}
 use Rattle.lego_kernel.specs.Simple.{IsSimple, IsSimpleOver, IsSimpleType, is_prop}
@@ -72,6 +72,7 @@ simple_has v es (tree.Sigma x a b) c s g valid = absurd s
 simple_has v es (tree.Pair x a b m n) c s g valid = absurd s
 simple_has v es (tree.Fst m) c s g valid = absurd s
 simple_has v es (tree.Snd m) c s g valid = absurd s
+simple_has v es (tree.Let x m n) c s g valid = absurd s
 
 pub simple_is_type : (es : List Item) (t : Core) → IsContext es → IsSimpleType es t → IsTypeAlways (laws_entries es) t
 simple_is_type es t c s v held = (0, simple_has v es t c s [] (whole_valid es c v held).valid)
@@ -80,7 +81,8 @@ simple_is_type es t c s v held = (0, simple_has v es t c s [] (whole_valid es c 
 no_type_by : (es : List Item) (k n : ℕ) (e : Item) → IsContext es → slice_get es k ≡ Some e
     → head_step (core_bodies (laws_entries es)) e.ty ≡ None → (Fulfils AType e.ty → ⊥) → IsNoType (laws_entries es) (Const k) e.ty
 no_type_by es k n e c there stuck wrong = record {
-  rule = record { w = λ i. i; fresh = record { new = λ i h. not_held i h; differ = λ i i' h. h }; rule = rule };
+  levels = 0;
+  rule = record { fresh = λ u l h. not_held u h; rule = rule };
   head = e.ty;
   is_head = (0, record { reaches = refl; last = stuck });
   no_type = wrong;
@@ -105,6 +107,7 @@ no_type_at es k n e (tree.Sigma x a b) is c there s no_prop = absurd s
 no_type_at es k n e (tree.Pair x a b m n') is c there s no_prop = absurd s
 no_type_at es k n e (tree.Fst m) is c there s no_prop = absurd s
 no_type_at es k n e (tree.Snd m) is c there s no_prop = absurd s
+no_type_at es k n e (tree.Let x m n') is c there s no_prop = absurd s
 
 -- a constant whose type isn't `Prop` is no type
 pub other_is_no_type : (es : List Item) (k : ℕ) (e : Item) → IsContext es → slice_get es k ≡ Some e → is_prop e.ty ≡ false → IsNoType (laws_entries es) (Const k) e.ty

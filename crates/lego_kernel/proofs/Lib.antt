@@ -4,3 +4,4 @@ pub mod AssumeLemmas
 pub mod NameLemmas
 pub mod PureLemmas
 pub mod TypeFaultLemmas
+pub mod CopyLemmas

@@ -2,7 +2,7 @@
 use Rattle.std.proofs.Common.{◌≡◌, ℕ, suc, zero, ◌+◌, true, false, List, [], ◌∷◌, ◌++◌, take, length, slice_get, Some, refl, sym, ap, ◌∙◌, subst, nat_lt, get_or, arith}
 use Rattle.std.proofs.lemmas.Bool.{ltb-true}
 use Rattle.std.proofs.lemmas.Option.{slice_get_read}
-use Rattle.lego_term.specs.Trees.{Core, Var, Const, Prop, Univ, Pi, Lam, App, Sigma, Pair, Fst, Snd, uses_level, levels_of}
+use Rattle.lego_term.specs.Trees.{Core, Var, Const, Prop, Univ, Pi, Lam, App, Sigma, Pair, Fst, Snd, Let, uses_level, levels_of}
 use Rattle.lego_laws.specs.Entries.{entry_uses}
 use Rattle.std.specs.List.{list_any}
 use Rattle.lego_kernel.specs.Simple.{IsSimple, is_prop}
@@ -38,6 +38,7 @@ is_prop-true (Sigma x a b) h = cc
 is_prop-true (Pair x a b m n) h = cc
 is_prop-true (Fst m) h = cc
 is_prop-true (Snd m) h = cc
+is_prop-true (Let x m n) h = cc
 
 -- a simple term has no level
 levels-none : (n : ℕ) (t : Core) → IsSimple n t → levels_of t ≡ []
@@ -52,6 +53,7 @@ levels-none n (Sigma x c b) a = absurd a
 levels-none n (Pair x c b m n') a = absurd a
 levels-none n (Fst m) a = absurd a
 levels-none n (Snd m) a = absurd a
+levels-none n (Let x m k) a = absurd a
 
 pub no_level : (n u : ℕ) (t : Core) → IsSimple n t → uses_level u t ≡ false
 no_level n u t a = rw (levels-none n t a) refl

@@ -20,9 +20,10 @@ use Rattle.lego_kernel.specs.declared.fault.TypeFault.TheVariants.{NotAType, Ful
 abbrev pub IsTypeAlways : List Entry → Core → Type 0
 IsTypeAlways es t = (v : Assignment) → SatisfiesAll v (kept es) → IsType (entries_at v es) [] (at v t)
 
--- `got` is the rule type of the term, and its head form is neither `Prop` nor a universe
+-- `got` is the rule type of the term, with the level variables from `levels` on, and its head form is neither `Prop` nor a universe
 pub record IsNoType (es : List Entry) (t got : Core) : Type 0 where
-  pub rule : HasRuleType es [] t got
+  pub levels : ℕ
+  pub rule : HasRuleType levels es [] t got
   pub head : Core
   pub is_head : HeadForm (core_bodies es) got head
   pub no_type : Fulfils AType head → ⊥

@@ -8,6 +8,8 @@ ghost use Rattle.lego_kernel.specs.Simple.{IsSimpleOver, IsSimpleType, is_prop a
 ghost use Rattle.lego_kernel.specs.Assuming.{IsNoTypeBy, HasOtherConstant, IsAdmitted, IsRefused};
 ghost use Rattle.lego_kernel.specs.declared.fault.TypeFault.TheVariants.{Memory};
 
+mod copying;
+
 use crate::entry::{At, Entry};
 use crate::fault::{Counted, TypeFault};
 use indexmap::IndexSet;

@@ -6,8 +6,6 @@
 mod context;
 mod entry;
 mod fault;
-#[cfg(test)]
-mod tests;
 
 pub use context::Context;
 pub use entry::{At, Entry};

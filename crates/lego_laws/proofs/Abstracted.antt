@@ -1,14 +1,14 @@
 -- Assumptions of a list turned into local variables.
 use Rattle.std.proofs.Common.{◌≡◌, ℕ, suc, Bool, true, false, cond, nat_eq, IsTrue, Option, Some, None, option_map, option_and_then, unwrap_or, IfSome, List, [], ◌∷◌, ◌++◌, refl, sym, ap, ap₂, ◌∙◌, arith, subst}
 use Rattle.std.proofs.lemmas.Bool.Decides.{nat_tests}
-use Rattle.lego_term.specs.Trees.{Term, Var, Const, Prop, Univ, Pi, Lam, App, Sigma, Pair, Fst, Snd, lift, listed_variable, close_over}
+use Rattle.lego_term.specs.Trees.{Term, Var, Const, Prop, Univ, Pi, Lam, App, Sigma, Pair, Fst, Snd, lift, listed_variable, close_over, Let}
 use Rattle.lego_term.specs.Steps.{Contracts, Step, Converts}
 use Rattle.lego_laws.specs.Parallel.{TermBodies}
 use Rattle.lego_laws.specs.Entries.{Constant, constant_of, bodies_of}
 use Rattle.lego_laws.specs.Judgement.{Has}
 use Rattle.lego_laws.specs.Valid.{AreValid}
 use Rattle.lego_laws.specs.Derivations.{types_of, HasLocal, Derives, d_var, d_const, ValidLocals, v_none, v_local, ValidConstants}
-use Rattle.lego_laws.specs.Strengthening.{Mentions, EntryMentions}
+use Rattle.lego_laws.specs.Strengthening.{MentionsOnly, EntryMentions}
 use Rattle.lego_laws.specs.Orders.{found_in, has_constant, MentionEarlier, AreAmong}
 use Rattle.lego_laws.specs.Replacement.{raised, replace, listed_as_locals}
 use Rattle.lego_laws.specs.Abstraction.{Abstracts, nothing, keeps, abstracts, Abstraction}
@@ -19,14 +19,15 @@ use Rattle.lego_laws.proofs.ExpansionLaws.{tail_valid, newest_type}
 use Rattle.lego_laws.proofs.Renaming.{d-thin}
 use Rattle.lego_laws.proofs.Replaced.{Stands, r-derives, raised_closed, lift_converts}
 use Rattle.lego_laws.proofs.Reordered.{found_is, reordering}
-use Rattle.lego_laws.proofs.Listed.{replaced_agree, listed_last, listed_others, others_raised}
+use Rattle.lego_laws.proofs.Listed.{listed_last, listed_others, others_raised}
+use Rattle.lego_laws.proofs.KnownConstants.{replaced_agree}
 use Rattle.lego_laws.proofs.Closing.{closed_over}
 
 -- a term that mentions constants alone which stand for themselves stays
 raised_same : (p : ℕ → Bool) (s : ℕ → Term) → ((k : ℕ) → IsTrue (p k) → s k ≡ Const k) → (k : ℕ) → IsTrue (p k) → raised s k ≡ Const k
 raised_same p s h k m = ap (lift 0 1) (h k m)
 
-unmentioned : (p : ℕ → Bool) (s : ℕ → Term) → ((k : ℕ) → IsTrue (p k) → s k ≡ Const k) → (t : Term) → Mentions p t → replace s t ≡ t
+unmentioned : (p : ℕ → Bool) (s : ℕ → Term) → ((k : ℕ) → IsTrue (p k) → s k ≡ Const k) → (t : Term) → MentionsOnly p t → replace s t ≡ t
 unmentioned p s h (Var i) m = refl
 unmentioned p s h (Const k) m = h k m
 unmentioned p s h Prop m = refl
@@ -35,6 +36,7 @@ unmentioned p s h (Pi x a r) m = ap₂ (Pi tt) (unmentioned p s h a m.0) (unment
 unmentioned p s h (Lam x a r) m = ap₂ (Lam tt) (unmentioned p s h a m.0) (unmentioned p (raised s) (raised_same p s h) r m.1)
 unmentioned p s h (App x a r) m = ap₂ (App tt) (unmentioned p s h a m.0) (unmentioned p s h r m.1)
 unmentioned p s h (Sigma x a r) m = ap₂ (Sigma tt) (unmentioned p s h a m.0) (unmentioned p (raised s) (raised_same p s h) r m.1)
+unmentioned p s h (Let x a r) m = ap₂ (Let tt) (unmentioned p s h a m.0) (unmentioned p (raised s) (raised_same p s h) r m.1)
 unmentioned p s h (Pair x a r y z) m =
     let ea = unmentioned p s h a m.0 in
     let er = unmentioned p (raised s) (raised_same p s h) r m.1 in
@@ -117,7 +119,7 @@ module _ (ns : List ℕ) (es es' : List Constant) (h : List Term) (x : Abstracte
       grows' : Extends (bodies_of es') (bodies_of (e ∷ es'))
       grows' = bodies_kept e es' new_kept
 
-      stays : (t : Term) → Mentions (has_constant es') t → replace s t ≡ t
+      stays : (t : Term) → MentionsOnly (has_constant es') t → replace s t ≡ t
       unfolding s
       stays t m = unmentioned (has_constant es') (listed_as_locals ns) (λ k q. as_itself ns k (x.apart k q)) t m
 
@@ -125,16 +127,16 @@ module _ (ns : List ℕ) (es es' : List Constant) (h : List Term) (x : Abstracte
       unfolding s
       itself k is = as_itself ns k (x.listed k (ap (constant_of es) is ∙ new))
 
-      body_mentions : (o : Option Term) (t : Term) → o ≡ Some t → IfSome o (λ m. Mentions (has_constant es') m) → Mentions (has_constant es') t
+      body_mentions : (o : Option Term) (t : Term) → o ≡ Some t → IfSome o (λ m. MentionsOnly (has_constant es') m) → MentionsOnly (has_constant es') t
       body_mentions None t q m = cc
-      body_mentions (Some u) t q m = let is : u ≡ t = cc in subst (Mentions (has_constant es')) is m
+      body_mentions (Some u) t q m = let is : u ≡ t = cc in subst (MentionsOnly (has_constant es')) is m
 
       typed_at : (k : ℕ) (a : Term) (o : Bool) → nat_eq e.number k ≡ o → option_map (λ e. e.ty) (cond o (Some e) (constant_of es k)) ≡ Some a → Derives (types_of (e ∷ es')) (bodies_of (e ∷ es')) h (s k) (replace s a)
       unfolding s
       typed_at k a true q f =
           let is : e.ty ≡ a = cc in
           let found = ap (λ o. option_map (λ (e : Constant). e.ty) (cond o (Some e) (constant_of es' k))) q ∙ ap Some is in
-          moved (sym (itself k (is_number e.number k q))) (sym (stays a (subst (Mentions (has_constant es')) is mentions.0))) (d_const found)
+          moved (sym (itself k (is_number e.number k q))) (sym (stays a (subst (MentionsOnly (has_constant es')) is mentions.0))) (d_const found)
       typed_at k a false q f = more_derives grows grows' (x.stands.typed k a f)
 
       converts_at : (k : ℕ) (t : Term) (o : Bool) → nat_eq e.number k ≡ o → option_and_then (λ e. e.body) (cond o (Some e) (constant_of es k)) ≡ Some t → Converts (bodies_of (e ∷ es')) (s k) (replace s t)

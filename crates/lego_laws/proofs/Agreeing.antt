@@ -4,7 +4,7 @@ use Rattle.std.proofs.lemmas.Bool.{cases_lt}
 use mathlib.Core.Path.{fun_ext}
 use Rattle.lego_term.specs.declared.level.Level.{Level}
 use Rattle.lego_term.specs.Levels.{Assignment, node_value, level_value, LevelPair, SatisfiesAll}
-use Rattle.lego_term.specs.Trees.{Core, Term, Var, Const, Prop, Univ, Pi, Lam, App, Sigma, Pair, Fst, Snd, at}
+use Rattle.lego_term.specs.Trees.{Core, Term, Var, Const, Prop, Univ, Pi, Lam, App, Sigma, Pair, Fst, Snd, at, Let}
 use Rattle.lego_laws.specs.Parallel.{TermBodies, CoreBodies, bodies_at}
 use Rattle.lego_laws.specs.Ranges.{node_bound, level_bound, levels_bound, pairs_bound, locals_bound, Agree, Bounded, Context}
 
@@ -28,6 +28,7 @@ at_agree v w (Pi x a r) h = ap₂ (Pi tt) (at_agree v w a (narrower (omega arith
 at_agree v w (Lam x a m) h = ap₂ (Lam tt) (at_agree v w a (narrower (omega arith) h)) (at_agree v w m (narrower (omega arith) h))
 at_agree v w (App k m n) h = ap₂ (App tt) (at_agree v w m (narrower (omega arith) h)) (at_agree v w n (narrower (omega arith) h))
 at_agree v w (Sigma x a r) h = ap₂ (Sigma tt) (at_agree v w a (narrower (omega arith) h)) (at_agree v w r (narrower (omega arith) h))
+at_agree v w (Let x a r) h = ap₂ (Let tt) (at_agree v w a (narrower (omega arith) h)) (at_agree v w r (narrower (omega arith) h))
 at_agree v w (Pair x a r m n) h =
     let ea = at_agree v w a (narrower (omega arith) h) in
     let er = at_agree v w r (narrower (omega arith) h) in

@@ -5,8 +5,7 @@ use Rattle.lego_term.specs.Levels.{Assignment, level_value}
 use Rattle.lego_term.specs.Trees.{Core, Term, map_tree, at, at_zero}
 use Rattle.lego_term.specs.Steps.{Converts}
 use Rattle.lego_term.specs.Below.{Below}
-use Rattle.lego_laws.specs.Parallel.{TermBodies, CoreBodies, bodies_at}
-use Rattle.lego_laws.specs.Comparison.{bodies_valued}
+use Rattle.lego_laws.specs.Parallel.{TermBodies, CoreBodies, bodies_at, bodies_valued}
 use Rattle.lego_laws.proofs.Mapping.{converts-map, mapped_bodies}
 use Rattle.lego_laws.proofs.Valued.{map_twice}
 

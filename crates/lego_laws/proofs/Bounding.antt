@@ -2,8 +2,8 @@
 use Rattle.std.proofs.Common.{ℕ, suc, ◌+◌, ◌≤◌, List, arith}
 use Rattle.lego_term.specs.Trees.{Term}
 use Rattle.lego_laws.specs.Parallel.{TermBodies}
-use Rattle.lego_laws.specs.Derivations.{Derives, d_prop, d_univ, d_var, d_const, d_pi_prop, d_pi, d_lam, d_app, d_sigma, d_pair, d_fst, d_snd, d_cum}
-use Rattle.lego_laws.specs.Ranges.{Bounded, b_prop, b_univ, b_var, b_const, b_pi_prop, b_pi, b_lam, b_app, b_sigma, b_pair, b_fst, b_snd, b_cum}
+use Rattle.lego_laws.specs.Derivations.{Derives, d_prop, d_univ, d_var, d_const, d_pi_prop, d_pi, d_lam, d_app, d_sigma, d_pair, d_fst, d_snd, d_cum, d_let}
+use Rattle.lego_laws.specs.Ranges.{Bounded, b_prop, b_univ, b_var, b_const, b_pi_prop, b_pi, b_lam, b_app, b_sigma, b_pair, b_fst, b_snd, b_let, b_cum}
 
 pub bounded_more : {t : ℕ} {c b : TermBodies} {g : List Term} {m a : Term} (s : ℕ) → t ≤ s → Bounded t c b g m a → Bounded s c b g m a
 bounded_more s le b_prop = b_prop
@@ -18,6 +18,7 @@ bounded_more s le (b_sigma l d e) = b_sigma (omega arith) (bounded_more s le d) 
 bounded_more s le (b_pair d e m n) = b_pair (bounded_more s le d) (bounded_more s le e) (bounded_more s le m) (bounded_more s le n)
 bounded_more s le (b_fst d) = b_fst (bounded_more s le d)
 bounded_more s le (b_snd d) = b_snd (bounded_more s le d)
+bounded_more s le (b_let d e) = b_let (bounded_more s le d) (bounded_more s le e)
 bounded_more s le (b_cum d l) = b_cum (bounded_more s le d) l
 
 pub record HasBound (c b : TermBodies) (g : List Term) (m a : Term) : Type 0 where
@@ -58,4 +59,8 @@ bound_of (d_pair d e m n) =
     record { t = t; bounded = b_pair (bounded_more t (omega arith) h.bounded) (bounded_more t (omega arith) k.bounded) (bounded_more t (omega arith) p.bounded) (bounded_more t (omega arith) q.bounded) }
 bound_of (d_fst d) = let h = bound_of d in record { t = h.t; bounded = b_fst h.bounded }
 bound_of (d_snd d) = let h = bound_of d in record { t = h.t; bounded = b_snd h.bounded }
+bound_of (d_let d e) =
+    let h = bound_of d in
+    let k = bound_of e in
+    record { t = h.t + k.t; bounded = b_let (bounded_more (h.t + k.t) (omega arith) h.bounded) (bounded_more (h.t + k.t) (omega arith) k.bounded) }
 bound_of (d_cum d e l) = let h = bound_of d in record { t = h.t; bounded = b_cum h.bounded l }

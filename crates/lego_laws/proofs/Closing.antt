@@ -2,7 +2,7 @@
 use Rattle.std.proofs.Common.{◌≡◌, ℕ, suc, ◌+◌, ◌≤◌, nat_lt, if◌then◌else◌, length, Option, Some, None, option_map, unwrap_or, List, refl, sym, ap, ap₂, ◌∙◌, arith}
 use Rattle.std.proofs.lemmas.Bool.Decides.{nat_tests}
 use mathlib.Core.Path.{fun_ext}
-use Rattle.lego_term.specs.Trees.{Tree, Var, Const, Prop, Univ, Pi, Lam, App, Sigma, Pair, Fst, Snd, lift, loose, listed_variable, close_over}
+use Rattle.lego_term.specs.Trees.{Tree, Var, Const, Prop, Univ, Pi, Lam, App, Sigma, Pair, Fst, Snd, lift, loose, listed_variable, close_over, Let}
 use Rattle.lego_laws.specs.Replacement.{raised, replace, listed_as_locals, ClosingIsReplacement}
 
 inner_var : (ns : List ℕ) (i depth : ℕ) → suc i ≤ depth → (if nat_lt i depth then i else i + length ns) ≡ i
@@ -40,6 +40,8 @@ module _ {B M L : Type 0} (ns : List ℕ) where
       cc (ea, er, em, en)
   closing depth (Fst m) le = ap Fst (closing depth m le)
   closing depth (Snd m) le = ap Snd (closing depth m le)
+  closing depth (Let x m n) le =
+      ap₂ (Let x) (closing depth m (omega arith)) (closing (suc depth) n (omega arith) ∙ ap (λ s. replace s n) (sym (raised_listed depth)))
 
   unlifted : (k : ℕ) (o : Option ℕ) → ◌≡◌ {A = Tree B M L} (unwrap_or (option_map (λ i. Var (i + 0)) o) (Const k)) (unwrap_or (option_map Var o) (Const k))
   unlifted k None = refl

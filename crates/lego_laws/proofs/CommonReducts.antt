@@ -1,7 +1,7 @@
 -- Church-Rosser over decorated trees.
-use Rattle.lego_term.specs.Trees.{Tree, Pi, Lam, App, Sigma, Pair, Fst, Snd, Bodies}
+use Rattle.lego_term.specs.Trees.{Tree, Pi, Lam, App, Sigma, Pair, Fst, Snd, Bodies, Let}
 use Rattle.lego_term.specs.Steps.{Contracts, Step, Converts}
-use Rattle.lego_laws.specs.Parallel.{AreClosed, ParallelStep, p_var, p_const, p_prop, p_univ, p_pi, p_lam, p_app, p_sigma, p_pair, p_fst, p_snd, p_beta, p_first, p_second, p_unfold, Star, stop, go}
+use Rattle.lego_laws.specs.Parallel.{AreClosed, ParallelStep, p_var, p_const, p_prop, p_univ, p_pi, p_lam, p_app, p_sigma, p_pair, p_fst, p_snd, p_let, p_local, p_beta, p_first, p_second, p_unfold, Star, stop, go}
 use Rattle.lego_laws.specs.Confluence.{ParallelStepsMeetOf, ParallelStepsMeet, ConfluenceOf, Confluence}
 use Rattle.lego_laws.proofs.Parallel.{p_refl, develop, triangle}
 
@@ -18,6 +18,9 @@ pub step-parallel : {B M L : Type 0} {b : Bodies B M L} {t u : Tree B M L} → S
 step-parallel {b = b} (Step.here (Contracts.beta {m = m} {n = n})) = p_beta (p_refl b m) (p_refl b n)
 step-parallel {b = b} (Step.here (Contracts.first {m = m})) = p_first (p_refl b m)
 step-parallel {b = b} (Step.here (Contracts.second {n = n})) = p_second (p_refl b n)
+step-parallel {b = b} (Step.here (Contracts.local {m = m} {n = n})) = p_local (p_refl b m) (p_refl b n)
+step-parallel {b = b} (Step.local_value {n = y} s) = p_let (step-parallel s) (p_refl b y)
+step-parallel {b = b} (Step.local_body {m = y} s) = p_let (p_refl b y) (step-parallel s)
 step-parallel (Step.here (Contracts.unfolds e)) = p_unfold e
 step-parallel {b = b} (Step.pi_domain {b = y} s) = p_pi (step-parallel s) (p_refl b y)
 step-parallel {b = b} (Step.pi_body {a = y} s) = p_pi (p_refl b y) (step-parallel s)
@@ -52,6 +55,7 @@ parallel-steps (p_pi {x = x} p q) = both (Pi x) (λ _ _ _ s. Step.pi_domain s) (
 parallel-steps (p_lam {x = x} p q) = both (Lam x) (λ _ _ _ s. Step.lam_domain s) (λ _ _ _ s. Step.lam_body s) (parallel-steps p) (parallel-steps q)
 parallel-steps (p_app {k = k} p q) = both (App k) (λ _ _ _ s. Step.function s) (λ _ _ _ s. Step.argument s) (parallel-steps p) (parallel-steps q)
 parallel-steps (p_sigma {x = x} p q) = both (Sigma x) (λ _ _ _ s. Step.sigma_domain s) (λ _ _ _ s. Step.sigma_body s) (parallel-steps p) (parallel-steps q)
+parallel-steps (p_let {x = x} p q) = both (Let x) (λ _ _ _ s. Step.local_value s) (λ _ _ _ s. Step.local_body s) (parallel-steps p) (parallel-steps q)
 parallel-steps (p_pair p q r s) = steps_pair (parallel-steps p) (parallel-steps q) (parallel-steps r) (parallel-steps s)
 parallel-steps (p_fst p) = star_map Fst (λ _ _ s. go (Step.fst_operand s) stop) (parallel-steps p)
 parallel-steps (p_snd p) = star_map Snd (λ _ _ s. go (Step.snd_operand s) stop) (parallel-steps p)
@@ -59,6 +63,7 @@ parallel-steps (p_beta {k = k} {x = x} {a = a} p q) = star_trans (both (λ m n. 
 parallel-steps (p_first {x = x} {a = a} {c = c} {n = n} p) = star_trans (star_map (λ m. Fst (Pair x a c m n)) (λ _ _ s. go (Step.fst_operand (Step.pair_first s)) stop) (parallel-steps p)) (go (Step.here Contracts.first) stop)
 parallel-steps (p_second {x = x} {a = a} {c = c} {m = m} p) = star_trans (star_map (λ n. Snd (Pair x a c m n)) (λ _ _ s. go (Step.snd_operand (Step.pair_second s)) stop) (parallel-steps p)) (go (Step.here Contracts.second) stop)
 parallel-steps (p_unfold e) = go (Step.here (Contracts.unfolds e)) stop
+parallel-steps (p_local {x = x} p q) = star_trans (both (Let x) (λ _ _ _ s. Step.local_value s) (λ _ _ _ s. Step.local_body s) (parallel-steps p) (parallel-steps q)) (go (Step.here Contracts.local) stop)
 
 -- runs of parallel steps
 pub record Joins {B M L : Type 0} (b : Bodies B M L) (t u : Tree B M L) : Type 0 where

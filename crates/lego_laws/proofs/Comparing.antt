@@ -5,11 +5,11 @@ use Rattle.lego_term.specs.Levels.{Assignment, level_value, LevelPair, Satisfies
 use Rattle.lego_term.specs.Trees.{Core, Term, Var, Const, Prop, Univ, Pi, Lam, App, Sigma, Pair, Fst, Snd, at}
 use Rattle.lego_term.specs.Steps.{Converts}
 use Rattle.lego_term.specs.Below.{Below}
-use Rattle.lego_laws.specs.Parallel.{TermBodies, CoreBodies, AreClosed, bodies_at}
+use Rattle.lego_laws.specs.Parallel.{TermBodies, CoreBodies, AreClosed, bodies_at, valued, bodies_valued}
 use Rattle.lego_laws.specs.Cumulativity.{ByForm}
 use Rattle.lego_laws.specs.HeadForms.{IsHeadForm, PartsBelow, at_lam, at_app, at_pair, at_fst, at_snd}
 use Rattle.lego_laws.specs.Facing.{Order, Cumulativity, Conversion}
-use Rattle.lego_laws.specs.Comparison.{Related, valued, bodies_valued, asked, Compared, m_equal, m_heads, FormsCompared, f_var, f_const, f_prop, f_prop_univ, f_univ, f_pi, f_lam, f_app, f_sigma, f_pair, f_fst, f_snd, ComparisonIsExact}
+use Rattle.lego_laws.specs.Comparison.{Related, asked, Compared, m_equal, m_heads, FormsCompared, f_var, f_const, f_prop, f_prop_univ, f_univ, f_pi, f_lam, f_app, f_sigma, f_pair, f_fst, f_snd, ComparisonIsExact}
 use Rattle.lego_laws.proofs.CommonReducts.{joins, pi_same, lam_same, app_same, sigma_same, pair_same, fst_same, snd_same}
 use Rattle.lego_laws.proofs.Below.{convert_joined, under-below, pi_inverts, sigma_inverts, universes_invert}
 use Rattle.lego_laws.proofs.Head.{Ran, r_var, r_const, r_prop, r_univ, r_pi, r_lam, r_app, r_sigma, r_pair, r_fst, r_snd, ran, head_forms_compare}
@@ -79,7 +79,7 @@ module _ (value : Level → ℕ) where
   mutual
     pub gathered : {b : CoreBodies} {o : Order} {t u : Core} {k : List LevelPair} → Compared b o t u k → InOrder value k → Related o (bodies_valued value b) (valued value t) (valued value u)
     gathered {b} (m_equal {o = o} {t = t} {u = u} e) h = equal_related o (bodies_valued value b) (valued value t) (valued value u) (equal_valued value t u e)
-    gathered (m_heads {o = o} p q c) h = chain o _ _ _ _ _ (head_form_converts value p) (gathered_forms c h) (Converts.back (head_form_converts value q))
+    gathered (m_heads {o = o} _ p q c) h = chain o _ _ _ _ _ (head_form_converts value p) (gathered_forms c h) (Converts.back (head_form_converts value q))
 
     gathered_forms : {b : CoreBodies} {o : Order} {t u : Core} {k : List LevelPair} → FormsCompared b o t u k → InOrder value k → Related o (bodies_valued value b) (valued value t) (valued value u)
     gathered_forms (f_var {o = o}) h = of_conversion o Converts.same
@@ -151,7 +151,7 @@ module _ (b : CoreBodies) (closed : AreClosed b) (v : Assignment) where
   mutual
     pub needed : {o : Order} {t u : Core} {k : List LevelPair} → Compared b o t u k → Related o (bodies_at v b) (at v t) (at v u) → SatisfiesAll v k
     needed (m_equal e) h = tt
-    needed (m_heads {o = o} p q c) h =
+    needed (m_heads {o = o} _ p q c) h =
         needed_forms c (head_form_valued (level_value v) p) (head_form_valued (level_value v) q)
         (chain o _ _ _ _ _ (Converts.back (head_form_converts (level_value v) p)) h (head_form_converts (level_value v) q))
 

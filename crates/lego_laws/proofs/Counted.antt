@@ -1,7 +1,7 @@
 -- The steps of a walk are among those of the normalisation sequences.
 use Rattle.std.proofs.Common.{◌≡◌, ℕ, zero, suc, ◌+◌, ◌-◌, ◌≤◌, ◌<◌, Some, None, List, [], ◌∷◌, ⊎_elim, refl, arith, subst}
 use Rattle.std.proofs.lemmas.Bool.{cases_lt}
-use Rattle.lego_term.specs.Trees.{Core, Var, Const, Prop, Univ, Pi, Lam, App, Sigma, Pair, Fst, Snd}
+use Rattle.lego_term.specs.Trees.{Core, Var, Const, Prop, Univ, Pi, Lam, App, Sigma, Pair, Fst, Snd, Let}
 use Rattle.lego_term.specs.Parts.{Branch, parts_of}
 use Rattle.lego_term.specs.Sequences.{head_step, normal_step, after, CostMoreThan}
 use Rattle.lego_laws.specs.Parallel.{CoreBodies}
@@ -87,12 +87,13 @@ module _ (b : CoreBodies) where
       (λ m' w lm i'' k. one_part (Pair x a' r' m') (λ t. Unit {0}) (λ t u w s. (rw (la, lr, lm, s) refl, tt)) n tt refl k) h'') h') h
   parts_counted (Fst m) e h = one_part Fst (IsOperand b) (λ t u w s. in_fst b t u w s) m (fst_stuck b m e) refl h
   parts_counted (Snd m) e h = one_part Snd (IsOperand b) (λ t u w s. in_snd b t u w s) m (snd_stuck b m e) refl h
+  parts_counted (Let x m n) e h = cc
 
   mutual
     walked_left : {t u : Core} {i j : ℕ} → Walked b t u i j → HasSteps b t i
     walked_left {t} unvisited = none t
-    walked_left (on_the_way {t = t} {t' = t'} i j p q) = (t', head_after i t t' p)
-    walked_left (through_parts {t = t} {t' = t'} {i = i} {m = m} p q w) = head_counted i m t t' p.reaches (parts_counted t' p.last (parts_left w))
+    walked_left (on_the_way {t = t} {t' = t'} i j _ p q) = (t', head_after i t t' p)
+    walked_left (through_parts {t = t} {t' = t'} {i = i} {m = m} _ p q w) = head_counted i m t t' p.reaches (parts_counted t' p.last (parts_left w))
 
     parts_left : {ps qs : List Branch} {m n : ℕ} → PartsWalked b ps qs m n → PartsHaveSteps b ps m
     parts_left stopped = up_to_here
@@ -101,8 +102,8 @@ module _ (b : CoreBodies) where
   mutual
     walked_right : {t u : Core} {i j : ℕ} → Walked b t u i j → HasSteps b u j
     walked_right {u = u} unvisited = none u
-    walked_right (on_the_way {u = u} {u' = u'} i j p q) = (u', head_after j u u' q)
-    walked_right (through_parts {u = u} {u' = u'} {j = j} {n = n} p q w) = head_counted j n u u' q.reaches (parts_counted u' q.last (parts_right w))
+    walked_right (on_the_way {u = u} {u' = u'} i j _ p q) = (u', head_after j u u' q)
+    walked_right (through_parts {u = u} {u' = u'} {j = j} {n = n} _ p q w) = head_counted j n u u' q.reaches (parts_counted u' q.last (parts_right w))
 
     parts_right : {ps qs : List Branch} {m n : ℕ} → PartsWalked b ps qs m n → PartsHaveSteps b qs n
     parts_right stopped = up_to_here

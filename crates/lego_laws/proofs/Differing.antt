@@ -1,15 +1,15 @@
 -- Parts that face one another are related, so a difference excludes every value of the levels.
 use Rattle.std.proofs.Common.{◌≡◌, ℕ, zero, suc, Option, Some, None, List, [], ◌∷◌, slice_get, refl, sym, ◌∙◌, subst}
 use Rattle.lego_term.specs.declared.level.Level.{Level}
-use Rattle.lego_term.specs.Trees.{Core, Var, Const, Prop, Univ, Pi, Lam, App, Sigma, Pair, Fst, Snd}
+use Rattle.lego_term.specs.Trees.{Core, Var, Const, Prop, Univ, Pi, Lam, App, Sigma, Pair, Fst, Snd, Let}
 use Rattle.lego_term.specs.Parts.{Shape, shape_of, Branch, parts_of}
 use Rattle.lego_term.specs.Steps.{Converts}
 use Rattle.lego_term.specs.Below.{Below}
 use Rattle.lego_term.specs.Sequences.{HeadForm}
-use Rattle.lego_laws.specs.Parallel.{TermBodies, CoreBodies, AreClosed}
+use Rattle.lego_laws.specs.Parallel.{TermBodies, CoreBodies, AreClosed, valued, bodies_valued}
 use Rattle.lego_laws.specs.HeadForms.{IsHeadForm, PartsBelow, at_var, at_const}
 use Rattle.lego_laws.specs.Facing.{Order, Cumulativity, Conversion, order_at, Faces, SameRoot}
-use Rattle.lego_laws.specs.Comparison.{valued, bodies_valued, Related, AreInOrder, same_root, prop_below, DifferenceExcludesBelow, DifferenceExcludesConversion, FacingPartsAreRelated}
+use Rattle.lego_laws.specs.Comparison.{Related, AreInOrder, same_root, prop_below, DifferenceExcludesBelow, DifferenceExcludesConversion, FacingPartsAreRelated}
 use Rattle.lego_laws.proofs.Valued.{closed_valued, head_form_converts, head_form_valued}
 use Rattle.lego_laws.proofs.Comparing.{PartsConvert, k_var, k_const, parts_convert, chain, need_pi, need_sigma, as_parts, lam_parts, app_parts, pair_parts, fst_parts, snd_parts}
 
@@ -51,6 +51,7 @@ module _ (b : CoreBodies) (closed : AreClosed b) (value : Level → ℕ) where
   parts_related Cumulativity (Sigma x a r) (Sigma y a' r') e f g h = let s = need_sigma (bodies_valued value b) bodies_closed Cumulativity _ _ _ _ h in (s.0, (s.1, tt))
   parts_related Conversion (Sigma x a r) (Sigma y a' r') e f g h = let s = need_sigma (bodies_valued value b) bodies_closed Conversion _ _ _ _ h in (s.0, (s.1, tt))
   parts_related o (Sigma x a r) d e f g h = cc
+  parts_related o (Let x a r) d e f g h = cc
   parts_related Cumulativity (Lam x a r) (Lam y a' r') e f g h = let s = lam_parts (as_pairs Cumulativity (Lam x a r) (Lam y a' r') f g h) in (s.0, (s.1, tt))
   parts_related Conversion (Lam x a r) (Lam y a' r') e f g h = let s = lam_parts (as_pairs Conversion (Lam x a r) (Lam y a' r') f g h) in (s.0, (s.1, tt))
   parts_related o (Lam x a r) d e f g h = cc
@@ -123,6 +124,7 @@ module _ (b : CoreBodies) (closed : AreClosed b) (value : Level → ℕ) where
   roots_in_order (Lam x a r) (Lam y a' r') p = same_root (SameRoot.parts refl refl)
   roots_in_order (App x a r) (App y a' r') p = same_root (SameRoot.parts refl refl)
   roots_in_order (Sigma x a r) (Sigma y a' r') p = same_root (SameRoot.parts refl refl)
+  roots_in_order (Let x a r) (Let y a' r') p = same_root (SameRoot.parts refl refl)
   roots_in_order (Pair x a r m n) (Pair y a' r' m' n') p = same_root (SameRoot.parts refl refl)
   roots_in_order (Fst m) (Fst m') p = same_root (SameRoot.parts refl refl)
   roots_in_order (Snd m) (Snd m') p = same_root (SameRoot.parts refl refl)
@@ -137,6 +139,7 @@ module _ (b : CoreBodies) (closed : AreClosed b) (value : Level → ℕ) where
   roots_agree (Lam x a r) (Lam y a' r') p = SameRoot.parts refl refl
   roots_agree (App x a r) (App y a' r') p = SameRoot.parts refl refl
   roots_agree (Sigma x a r) (Sigma y a' r') p = SameRoot.parts refl refl
+  roots_agree (Let x a r) (Let y a' r') p = SameRoot.parts refl refl
   roots_agree (Pair x a r m n) (Pair y a' r' m' n') p = SameRoot.parts refl refl
   roots_agree (Fst m) (Fst m') p = SameRoot.parts refl refl
   roots_agree (Snd m) (Snd m') p = SameRoot.parts refl refl
@@ -150,7 +153,8 @@ module _ (b : CoreBodies) (closed : AreClosed b) (value : Level → ℕ) where
   in_order Conversion h k w = same_root (conversion_agrees h k w)
 
 pub facing_parts_are_related : FacingPartsAreRelated
-facing_parts_are_related b closed t u o n h k f value p = (facing b closed value f p).related
+facing_parts_are_related b closed t u o n h k f Cumulativity value p = (facing b closed value f p).related
+facing_parts_are_related b closed t u o n h k f Conversion value p = (facing_converts b closed value f p).related
 
 pub difference_excludes_below : DifferenceExcludesBelow
 difference_excludes_below b closed t u o n h k f out value p = out (in_order b closed value o h k (facing b closed value f p))

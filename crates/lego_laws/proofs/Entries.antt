@@ -1,11 +1,11 @@
 -- More constants, closed terms, and valid entries.
-use Rattle.std.proofs.Common.{◌≡◌, ℕ, ◌≤◌, ◌<◌, length, Option, Some, None, List, [], ◌∷◌, refl, ap, ◌∙◌, arith, nat_eq, Bool, true, false, cond, option_map, option_and_then, subst, ◌⊎◌, inl, inr}
+use Rattle.std.proofs.Common.{◌≡◌, ℕ, suc, max, ◌≤◌, ◌<◌, length, Option, Some, None, List, [], ◌∷◌, refl, ap, ◌∙◌, arith, nat_eq, Bool, true, false, cond, option_map, option_and_then, subst, ◌⊎◌, inl, inr}
 use Rattle.std.proofs.lemmas.Bool.Decides.{nat_tests}
-use Rattle.lego_term.specs.Trees.{Term, Univ, loose}
+use Rattle.lego_term.specs.Trees.{Term, Var, Const, Prop, Univ, Pi, Lam, App, Sigma, Pair, Fst, Snd, Let, loose, put, put_var, instantiate}
 use Rattle.lego_laws.specs.Parallel.{TermBodies, AreClosed}
 use Rattle.lego_term.specs.Steps.{Step, Contracts, Converts}
 use Rattle.lego_term.specs.Below.{Below}
-use Rattle.lego_laws.specs.Derivations.{HasLocal, Derives, d_prop, d_univ, d_var, d_const, d_pi_prop, d_pi, d_lam, d_app, d_sigma, d_pair, d_fst, d_snd, d_cum, ValidLocals, v_none, v_local, ValidConstants, types_of}
+use Rattle.lego_laws.specs.Derivations.{HasLocal, Derives, d_prop, d_univ, d_var, d_const, d_pi_prop, d_pi, d_lam, d_app, d_sigma, d_pair, d_fst, d_snd, d_let, d_cum, ValidLocals, v_none, v_local, ValidConstants, types_of}
 use Rattle.lego_laws.specs.Entries.{Constant, constant_of, bodies_of}
 use Rattle.lego_laws.proofs.Rules.{ValidTypes, type_from}
 
@@ -17,6 +17,7 @@ pub more_step : {b b' : TermBodies} → Extends b b' → {t u : Term} → Step b
 more_step x (Step.here Contracts.beta) = (Step.here Contracts.beta)
 more_step x (Step.here Contracts.first) = (Step.here Contracts.first)
 more_step x (Step.here Contracts.second) = (Step.here Contracts.second)
+more_step x (Step.here Contracts.local) = (Step.here Contracts.local)
 more_step x (Step.here (Contracts.unfolds {k = k} {m = t} e)) = Step.here (Contracts.unfolds (x k t e))
 more_step x (Step.pi_domain s) = Step.pi_domain (more_step x s)
 more_step x (Step.pi_body s) = Step.pi_body (more_step x s)
@@ -25,7 +26,9 @@ more_step x (Step.lam_body s) = Step.lam_body (more_step x s)
 more_step x (Step.function s) = Step.function (more_step x s)
 more_step x (Step.argument s) = Step.argument (more_step x s)
 more_step x (Step.sigma_domain s) = Step.sigma_domain (more_step x s)
+more_step x (Step.local_value s) = Step.local_value (more_step x s)
 more_step x (Step.sigma_body s) = Step.sigma_body (more_step x s)
+more_step x (Step.local_body s) = Step.local_body (more_step x s)
 more_step x (Step.pair_domain s) = Step.pair_domain (more_step x s)
 more_step x (Step.pair_body s) = Step.pair_body (more_step x s)
 more_step x (Step.pair_first s) = Step.pair_first (more_step x s)
@@ -60,6 +63,7 @@ more_derives x y (d_sigma d e) = d_sigma (more_derives x y d) (more_derives x y 
 more_derives x y (d_pair d e m n) = d_pair (more_derives x y d) (more_derives x y e) (more_derives x y m) (more_derives x y n)
 more_derives x y (d_fst d) = d_fst (more_derives x y d)
 more_derives x y (d_snd d) = d_snd (more_derives x y d)
+more_derives x y (d_let d e) = d_let (more_derives x y d) (more_derives x y e)
 more_derives x y (d_cum d e l) = d_cum (more_derives x y d) (more_derives x y e) (more_below y l)
 
 pub more_locals : {c c' b b' : TermBodies} → Extends c c' → Extends b b' → {g : List Term} → ValidLocals c b g → ValidLocals c' b' g
@@ -70,6 +74,28 @@ more_locals x y (v_local v d) = v_local (more_locals x y v) (more_derives x y d)
 local_within : {g : List Term} {i : ℕ} {a : Term} → HasLocal g i a → i < length g
 local_within HasLocal.here = omega arith
 local_within (HasLocal.there l) = let h = local_within l in omega arith
+
+-- substitution takes no other variable away
+put_var_before : (depth i : ℕ) (v : Term) → suc i ≤ suc (max depth (loose (put_var depth v i)))
+put_var_before depth i v = grind (arith, nat_tests)
+
+put_before : (depth : ℕ) (v t : Term) → loose t ≤ suc (max depth (loose (put depth v t)))
+put_before depth v (Var i) = put_var_before depth i v
+put_before depth v (Const k) = omega arith
+put_before depth v Prop = omega arith
+put_before depth v (Univ l) = omega arith
+put_before depth v (Pi x a r) = omega (arith, put_before depth v a, put_before (suc depth) v r)
+put_before depth v (Lam x a r) = omega (arith, put_before depth v a, put_before (suc depth) v r)
+put_before depth v (App x a r) = omega (arith, put_before depth v a, put_before depth v r)
+put_before depth v (Sigma x a r) = omega (arith, put_before depth v a, put_before (suc depth) v r)
+put_before depth v (Pair x a r m n) = omega (arith, put_before depth v a, put_before (suc depth) v r, put_before depth v m, put_before depth v n)
+put_before depth v (Fst m) = put_before depth v m
+put_before depth v (Snd m) = put_before depth v m
+put_before depth v (Let x m n) = omega (arith, put_before depth v m, put_before (suc depth) v n)
+
+loose_before : (n m : Term) → loose n ≤ suc (loose (instantiate n m))
+unfolding instantiate
+loose_before n m = omega (arith, put_before 0 m n)
 
 pub loose_within : {c b : TermBodies} {g : List Term} {m a : Term} → Derives c b g m a → loose m ≤ length g
 loose_within d_prop = omega arith
@@ -84,6 +110,7 @@ loose_within (d_sigma d e) = omega (arith, loose_within d, loose_within e)
 loose_within (d_pair d e m n) = omega (arith, loose_within d, loose_within e, loose_within m, loose_within n)
 loose_within (d_fst d) = loose_within d
 loose_within (d_snd d) = loose_within d
+loose_within (d_let {m = m} {n = n} d e) = omega (arith, loose_within d, loose_within e, loose_before n m)
 loose_within (d_cum d e l) = loose_within d
 
 -- each body has its entry's type over the entries before it

@@ -8,9 +8,9 @@ use Rattle.lego_term.specs.Trees.{Core, at}
 use Rattle.lego_laws.specs.Parallel.{bodies_at}
 use Rattle.lego_laws.specs.Entries.{Entry, Constant, entry_of, core_bodies, entry_at, entries_at, constant_of, bodies_of, kept}
 use Rattle.lego_laws.specs.Valid.{AreValid}
-use Rattle.lego_laws.specs.Derivations.{types_of, v_none, ValidConstants}
+use Rattle.lego_laws.specs.Derivations.{types_of, ValidLocals, ValidConstants}
 use Rattle.lego_laws.specs.Ranges.{levels_bound, pairs_bound}
-use Rattle.lego_laws.specs.Principal.{core_types, body_bound, entries_bound, EntriesAtValues, EntriesAreAContext}
+use Rattle.lego_laws.specs.Principal.{core_types, body_bound, entries_bound, EntriesAtValues, EntriesAreAContext, EntriesAndLocalsAreAContext}
 use Rattle.lego_laws.proofs.Rules.{ValidTypes, known}
 use Rattle.lego_laws.proofs.TypingLaws.{constants_valid}
 use Rattle.lego_laws.proofs.Agreeing.{pairs_bound-append}
@@ -111,17 +111,22 @@ kept_within : (es : List Entry) → pairs_bound (kept es) ≤ entries_bound es
 kept_within [] = omega arith
 kept_within (e ∷ es) = omega (arith, pairs_bound-append e.constraints (kept es), kept_within es)
 
-pub entries_are_a_context : EntriesAreAContext
-entries_are_a_context es n always ct cb le =
+pub entries_and_locals_are_a_context : EntriesAndLocalsAreAContext
+entries_and_locals_are_a_context es n always ct cb le g lg valid =
     record {
       types_within = λ k a e. let w = type_within es k (entry_of es k) a refl e in omega arith;
       bodies_within = λ k a e. let w = body_within es k (entry_of es k) a refl e in omega arith;
-      locals_within = omega arith;
+      locals_within = lg;
       held_within = omega (arith, kept_within es);
       closed_types = ct;
       closed_bodies = cb;
       valid = λ v h.
           let x = always v h in
           subst (λ c. ValidConstants c (bodies_at v (core_bodies es))) (types_at es v x) (subst (λ b. ValidConstants (types_of (entries_at v es)) b) (bodies_at_values es v x) (constants_valid (entries_at v es) x));
-      locals = λ v h. v_none;
+      locals = λ v h.
+          let x = always v h in
+          subst (λ c. ValidLocals c (bodies_at v (core_bodies es)) (map (at v) g)) (types_at es v x) (subst (λ b. ValidLocals (types_of (entries_at v es)) b (map (at v) g)) (bodies_at_values es v x) (known (valid v h)).locals);
     }
+
+pub entries_are_a_context : EntriesAreAContext
+entries_are_a_context es n always ct cb le = entries_and_locals_are_a_context es n always ct cb le [] (omega arith) (λ v h. (always v h).valid)

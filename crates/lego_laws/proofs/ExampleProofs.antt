@@ -1,21 +1,23 @@
 -- Small statements that show what the definitions say.
-use Rattle.std.proofs.Common.{ℕ, [], ◌∷◌, None, refl, inl, inr, arith, ◌⊎◌}
-use Rattle.lego_term.specs.Levels.{variable_level}
-use Rattle.lego_term.specs.Trees.{Prop, Univ, Pi, instantiate}
+use Rattle.std.proofs.Common.{◌≡◌, ℕ, [], ◌∷◌, None, Some, refl, inl, inr, arith, ◌⊎◌}
+use Rattle.lego_term.specs.Levels.{fixed_level, variable_level}
+use Rattle.lego_term.specs.Trees.{Core, Prop, Univ, Pi, instantiate}
 use Rattle.lego_term.specs.Steps.{Contracts, Step, Converts}
 use Rattle.lego_term.specs.Below.{Below}
+use Rattle.lego_term.specs.Sequences.{head_step, HeadForm}
 use Rattle.lego_laws.specs.Parallel.{AreClosed}
 use Rattle.lego_laws.specs.Entries.{bodies_of}
+use Rattle.lego_laws.specs.Facing.{Faces}
 use Rattle.lego_laws.specs.Judgement.{Valid, Has}
 use Rattle.lego_laws.specs.Valid.{AlwaysValid}
 use Rattle.lego_laws.specs.RuleTypes.{RuleType}
-use Rattle.lego_laws.specs.Fitting.{Fits}
-use Rattle.lego_laws.specs.Examples.{a_prop, IdentityIsTyped, PropositionsHaveProducts, UniversesAreNoPropositions, NoSortIsInItself, DomainsMustConvert, RedexContracts, FourHeadSteps, RuleTypeOfIdentity, LevelsDontCountAtZero, one_more, at_most_five, UniverseFitsExactly}
+use Rattle.lego_laws.specs.Fitting.{Fits, FitsWanted, FitsWritten, top, top_valid}
+use Rattle.lego_laws.specs.Examples.{a_prop, IdentityIsTyped, PropositionsHaveProducts, UniversesAreNoPropositions, NoSortIsInItself, DomainsMustConvert, RedexContracts, FourHeadSteps, RuleTypeOfIdentity, LevelsDontCountAtZero, one_more, at_most_five, UniverseFitsExactly, above_zero, WrittenTypeCounts, OlderVariablesStayFree, ConstantsDontCount, BindersAreCrossed}
 use Rattle.lego_laws.proofs.Below.{universes_invert, universe_prop, pi_inverts, sorts_invert}
 use Rattle.lego_laws.proofs.TypingLaws.{generation_law}
-use Rattle.lego_laws.proofs.InferenceLaws.{fits_universe}
+use Rattle.lego_laws.proofs.InferenceLaws.{fits_prop, fits_universe, fits_written}
 use Rattle.lego_laws.proofs.EntriesAt.{entries_are_a_context}
-use Rattle.lego_laws.proofs.PrincipalLaws.{principal_types}
+use Rattle.lego_laws.proofs.PrincipalLaws.{principal_types, principal_definitions}
 
 valid_a : Valid a_prop []
 valid_a = Valid.grow_constant (Has.ax Valid.empty) refl
@@ -87,3 +89,42 @@ universe_fits_exactly = (fitting, not_sound, not_principal)
         let first = p.1.satisfies.0 in
         let second = p.1.satisfies.1.0 in
         omega arith
+
+pub written_type_counts : WrittenTypeCounts
+unfolding top top_valid
+written_type_counts = (fitting, not_wanted)
+  where
+    fitting : FitsWritten 0 1 [] [] Prop (Univ (fixed_level 0)) (above_zero ∷ [])
+    fitting =
+        let x = entries_are_a_context [] 0 always (λ k t e. cc) (λ k t e. cc) (omega arith) in
+        let fm = fits_prop 0 _ _ [] [] x in
+        let fa = fits_universe 0 _ _ [] [] x (fixed_level 0) (omega arith) in
+        principal_definitions [] 0 1 always (omega arith) [] Prop (Univ (fixed_level 0)) (above_zero ∷ []) x (omega arith) (omega arith)
+        (fits_written 0 0 1 _ _ [] [] x Prop (Univ (fixed_level 0)) (Univ (fixed_level 0)) (Univ (variable_level 0)) [] (above_zero ∷ []) [] (omega arith) fm fa (Some (variable_level 0)) (0, record { reaches = refl; last = refl }) (omega arith) (λ v. (λ s. Below.converts Converts.same, λ p. tt)))
+
+    not_wanted : FitsWanted 0 1 [] [] Prop (Univ (fixed_level 0)) (above_zero ∷ []) → ⊥
+    not_wanted f =
+        let p = f.principal [] tt (Has.ax Valid.empty) in
+        let small = p.1.bounded 0 (λ h. cc) in
+        let high = p.1.satisfies.0 in
+        omega arith
+
+pub older_variables_stay_free : OlderVariablesStayFree
+older_variables_stay_free n' f =
+    let p = f.extends (0 ∷ 7 ∷ []) tt (Has.ax Valid.empty) in
+    let same_value = p.1.same 1 (omega arith) in
+    let small = p.1.satisfies.0 in
+    omega arith
+
+pub constants_dont_count : ConstantsDontCount
+unfolding top top_valid
+constants_dont_count = (Has.ax (Valid.grow_constant (Has.universe Valid.empty) refl), refl)
+
+is_head : (t : Core) → head_step (λ k. None) t ≡ None → HeadForm (λ k. None) t t
+is_head t e = (0, record { reaches = refl; last = e })
+
+pub binders_are_crossed : BindersAreCrossed
+binders_are_crossed = (
+  Faces.turn 0 (Faces.root (is_head _ refl) (is_head _ refl)) refl refl refl refl (is_head _ refl) (is_head _ refl),
+  Faces.turn 1 (Faces.root (is_head _ refl) (is_head _ refl)) refl refl refl refl (is_head _ refl) (is_head _ refl),
+)

@@ -1,32 +1,16 @@
 -- Lists of constants in which some with bodies are put in.
-use Rattle.std.proofs.Common.{◌≡◌, ℕ, Bool, true, false, cond, Option, Some, None, option_map, option_and_then, unwrap_or, List, [], ◌∷◌, refl, sym, ap, ap₂, ◌∙◌, arith, nat_eq}
+use Rattle.std.proofs.Common.{◌≡◌, ℕ, Bool, true, false, cond, Option, Some, None, option_map, option_and_then, unwrap_or, List, [], ◌∷◌, refl, sym, ap, ◌∙◌, arith, nat_eq}
 use Rattle.std.proofs.lemmas.Bool.Decides.{nat_tests}
-use Rattle.lego_term.specs.Trees.{Term, Const, Univ, Pi, Lam, App, Sigma, Fst, Snd, loose, replace_constants}
+use Rattle.lego_term.specs.Trees.{Term, Const, Univ, loose, replace_constants}
 use Rattle.lego_term.specs.Steps.{Contracts, Step, Converts}
 use Rattle.lego_laws.specs.Parallel.{TermBodies}
-use Rattle.lego_laws.specs.Derivations.{types_of, Derives, d_prop, d_univ, d_var, d_const, d_pi_prop, d_pi, d_lam, d_app, d_sigma, d_pair, d_fst, d_snd, d_cum, ValidConstants}
+use Rattle.lego_laws.specs.Derivations.{types_of, Derives, d_const, ValidConstants}
 use Rattle.lego_laws.specs.Entries.{Constant, constant_of, bodies_of}
-use Rattle.lego_laws.specs.Expansion.{expansions, expand_all}
 use Rattle.lego_laws.specs.Orders.{fillings, filled, fill_all}
 use Rattle.lego_laws.proofs.Rules.{ValidTypes}
 use Rattle.lego_laws.proofs.Entries.{Extends, more_derives, more_convert, loose_within, HasItsType, ValidBodies, types_kept, bodies_kept, valid_constants, types_closed, bodies_closed}
+use Rattle.lego_laws.proofs.KnownConstants.{replace_agree}
 use Rattle.lego_laws.proofs.Translated.{Translates, t-derives, loose-replace_constants}
-
--- a typed term mentions only constants that have types
-pub replace_agree : {c b : TermBodies} (s r : TermBodies) → ((k : ℕ) (a : Term) → c k ≡ Some a → s k ≡ r k) → {g : List Term} {m a : Term} → Derives c b g m a → replace_constants s m ≡ replace_constants r m
-replace_agree s r h d_prop = refl
-replace_agree s r h d_univ = refl
-replace_agree s r h (d_var l) = refl
-replace_agree s r h (d_const {k = k} {a = a} e) = ap (λ o. unwrap_or o (Const k)) (h k a e)
-replace_agree s r h (d_pi_prop d e) = ap₂ (Pi tt) (replace_agree s r h d) (replace_agree s r h e)
-replace_agree s r h (d_pi d e) = ap₂ (Pi tt) (replace_agree s r h d) (replace_agree s r h e)
-replace_agree s r h (d_lam d e) = ap₂ (Lam tt) (replace_agree s r h d) (replace_agree s r h e)
-replace_agree s r h (d_app d e) = ap₂ (App tt) (replace_agree s r h d) (replace_agree s r h e)
-replace_agree s r h (d_sigma d e) = ap₂ (Sigma tt) (replace_agree s r h d) (replace_agree s r h e)
-replace_agree s r h (d_pair d e p q) = cc (replace_agree s r h d, replace_agree s r h e, replace_agree s r h p, replace_agree s r h q)
-replace_agree s r h (d_fst d) = ap Fst (replace_agree s r h d)
-replace_agree s r h (d_snd d) = ap Snd (replace_agree s r h d)
-replace_agree s r h (d_cum d e l) = replace_agree s r h d
 
 -- the second list is the first with the constants that s replaces put in
 pub record FillsTo (e l : List Constant) (s : TermBodies) : Type 0 where
@@ -151,15 +135,6 @@ module _ (e l : List Constant) (s : TermBodies) (v : ValidTypes e) (w : ValidBod
 
 pub nothing_yet : FillsTo [] [] (λ k. None)
 nothing_yet = record { types = tt; bodies = tt; fresh = λ k h. refl; translates = record { closed = λ k t h. cc; typed = λ k a h. cc; converts = λ k t h. cc } }
-
--- all constants with bodies are put in
-expand_next : (e : List Constant) → ValidTypes e → ValidBodies e → FillsTo e (expand_all e) (expansions e) → (n : ℕ) (a : Term) (o : Option Term) → constant_of e n ≡ None → (j : ℕ) → Derives (types_of e) (bodies_of e) [] a (Univ j) → HasItsType e o a → FillsTo (newest n a o ∷ e) (expand_all (newest n a o ∷ e)) (expansions (newest n a o ∷ e))
-expand_next e v w x n a None new j d t = kept_case e (expand_all e) (expansions e) v w x n a new j d None t
-expand_next e v w x n a (Some u) new j d t = definition_case e (expand_all e) (expansions e) v w x n a new j d u t
-
-pub expands : (e : List Constant) → ValidTypes e → ValidBodies e → FillsTo e (expand_all e) (expansions e)
-expands [] v w = nothing_yet
-expands (x ∷ e) (new, (j, d), v) (t, w) = expand_next e v w (expands e v w) x.number x.ty x.body new j d t
 
 -- the chosen constants with bodies are put in
 fill_next : (chosen : ℕ → Bool) (e : List Constant) → ValidTypes e → ValidBodies e → FillsTo e (fill_all chosen e) (fillings chosen e) → (n : ℕ) (a : Term) (o : Option Term) (c : Bool) → constant_of e n ≡ None → (j : ℕ) → Derives (types_of e) (bodies_of e) [] a (Univ j) → HasItsType e o a → FillsTo (newest n a o ∷ e) (filled chosen e n a o c (fill_all chosen e)) (λ k. cond (nat_eq n k) (cond c (option_map (replace_constants (fillings chosen e)) o) None) (fillings chosen e k))

@@ -9,13 +9,13 @@ use Rattle.lego_term.specs.Below.{Below}
 use Rattle.lego_term.specs.Sequences.{HeadForm}
 use Rattle.lego_laws.specs.Parallel.{CoreBodies, bodies_at}
 use Rattle.lego_laws.specs.Derivations.{Derives, d_cum, d_pair}
-use Rattle.lego_laws.specs.Ranges.{levels_bound, pairs_bound, Agree, Bounded, Context, Solution, FitsBetween, FitsWantedBetween, sort_term}
+use Rattle.lego_laws.specs.Ranges.{levels_bound, pairs_bound, Agree, Bounded, Context, Solution, FitsBetween, FitsWantedBetween, FitsWrittenBetween, sort_term}
 use Rattle.lego_laws.proofs.Valued.{closed_valued}
 use Rattle.lego_laws.proofs.Bounded.{generation_up}
 use Rattle.lego_laws.proofs.Renaming.{d-instantiate}
 use Rattle.lego_laws.proofs.Agreeing.{narrower, at_agree, satisfies_agree, bodies_agree, pairs_bound-append, agree_both}
 use Rattle.lego_laws.proofs.Satisfying.{satisfies_append, satisfies_front, satisfies_back}
-use Rattle.lego_laws.proofs.Solving.{below_with, one_solved, then_solved, next, sort_sound}
+use Rattle.lego_laws.proofs.Solving.{below_with, one_solved, then_solved, next, sort_value, sort_sound}
 use Rattle.lego_laws.proofs.FitsBinder.{two}
 use Rattle.lego_laws.proofs.FitsApp.{at-instantiate}
 
@@ -31,6 +31,34 @@ wanted_fits n₀ n₁ c b held g x m f a k k' la fm lk typed ok =
           let eb = bodies_agree v s.w n₀ b x.bodies_within s.agree in
           record { w = s.w; agree = s.agree; satisfies = satisfies_append s.w k k' s.satisfies ((ok s.w).1 (below_with eb refl e s.below)); below = below_with refl e refl (Below.converts Converts.same); small = s.small };
     }
+
+pub written_fits : (n₀ n₁ n₂ : ℕ) (c b : CoreBodies) (held : List LevelPair) (g : List Core) → Context n₀ c b held g → (m f a ta : Core) (k₁ k₂ k₃ : List LevelPair) → levels_bound a ≤ n₀ → FitsBetween n₀ n₁ c b held g m f k₁ → FitsBetween n₁ n₂ c b held g a ta k₂ → (s : Option Level) → HeadForm b ta (sort_term s) → pairs_bound k₃ ≤ n₂ → ((v : Assignment) → SatisfiesAll v k₃ ↔ Below (bodies_at v b) (at v f) (at v a)) → FitsWrittenBetween n₀ n₂ c b held g m a (k₁ ++ (k₂ ++ k₃))
+written_fits n₀ n₁ n₂ c b held g x m f a ta k₁ k₂ k₃ la fm fa s head lk ok =
+    let u₁ = fm.grows in
+    let u₂ = fa.grows in
+    record {
+      grows = omega arith;
+      pairs_within = omega (arith, pairs_bound-append k₁ (k₂ ++ k₃), pairs_bound-append k₂ k₃, fm.pairs_within, fa.pairs_within);
+      sound = λ v h q. d_cum (fm.sound v h (satisfies_front v k₁ (k₂ ++ k₃) q)) (type_at v h q).1 ((ok v).0 (satisfies_back v k₂ k₃ (satisfies_back v k₁ (k₂ ++ k₃) q)));
+      is_type = type_at;
+      principal = λ v h t j d e.
+          let s₁ = fm.principal v h t (at v a) d in
+          let h₁ = satisfies_agree v s₁.w held (narrower x.held_within s₁.agree) h in
+          let s₂ = next x v s₁.w s₁.agree g x.locals_within la fa h₁ t (Univ j) e in
+          let p = then_solved n₀ n₁ v b k₁ k₂ ((f, at v a) ∷ []) ((ta, Univ j) ∷ []) t u₁ x.bodies_within fm.pairs_within (omega (arith, fm.type_within)) (one_solved s₁) (one_solved s₂) in
+          let is = at_agree v p.w a (narrower la p.agree) in
+          let eb = bodies_agree v p.w n₀ b x.bodies_within p.agree in
+          record {
+            w = p.w;
+            agree = p.agree;
+            satisfies = satisfies_append p.w k₁ (k₂ ++ k₃) (satisfies_front p.w k₁ k₂ p.satisfies) (satisfies_append p.w k₂ k₃ (satisfies_back p.w k₁ k₂ p.satisfies) ((ok p.w).1 (below_with eb refl is p.below.0)));
+            below = below_with refl is refl (Below.converts Converts.same);
+            small = p.small;
+          };
+    }
+  where
+    type_at : (v : Assignment) → SatisfiesAll v held → SatisfiesAll v (k₁ ++ (k₂ ++ k₃)) → (j : ℕ) × Derives (bodies_at v c) (bodies_at v b) (map (at v) g) (at v a) (Univ j)
+    type_at v h q = (sort_value v s, sort_sound (bodies_at v c) b v (map (at v) g) (at v a) ta s head (fa.sound v h (satisfies_front v k₂ k₃ (satisfies_back v k₁ (k₂ ++ k₃) q))))
 
 module _ (n₀ n₁ n₂ n₃ n₄ : ℕ) (c b : CoreBodies) (held : List LevelPair) (g : List Core) (x : Context n₀ c b held g) (y : Binder) (a ta r tr m tm n tn : Core) (ka kr km kn k k' : List LevelPair) (la : levels_bound a ≤ n₀) (lr : levels_bound r ≤ n₀) (lm : levels_bound m ≤ n₀) (ln : levels_bound n ≤ n₀) (fa : FitsBetween n₀ n₁ c b held g a ta ka) (fr : FitsBetween n₁ n₂ c b (held ++ ka) (a ∷ g) r tr kr) (fm : FitsBetween n₂ n₃ c b held g m tm km) (fn : FitsBetween n₃ n₄ c b held g n tn kn) (s s' : Option Level) (ha : HeadForm b ta (sort_term s)) (hr : HeadForm b tr (sort_term s')) (lk : pairs_bound k ≤ n₄) (lk' : pairs_bound k' ≤ n₄) (ok : (v : Assignment) → SatisfiesAll v k ↔ Below (bodies_at v b) (at v tm) (at v a)) (ok' : (v : Assignment) → SatisfiesAll v k' ↔ Below (bodies_at v b) (at v tn) (at v (instantiate r m))) where
   pair_sound : (v : Assignment) → SatisfiesAll v held → SatisfiesAll v (((ka ++ kr) ++ (km ++ kn)) ++ (k ++ k')) → Derives (bodies_at v c) (bodies_at v b) (map (at v) g) (at v (Pair y a r m n)) (at v (Sigma y a r))

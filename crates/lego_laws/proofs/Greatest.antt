@@ -5,7 +5,7 @@ use Rattle.lego_laws.specs.Entries.{Constant, constant_of, bodies_of}
 use Rattle.lego_laws.specs.Judgement.{Valid, Has}
 use Rattle.lego_laws.specs.Derivations.{types_of}
 use Rattle.lego_laws.specs.Fitting.{top, top_valid}
-use Rattle.lego_laws.specs.Ranges.{Bounded, b_prop, b_univ, b_var, b_const, b_pi_prop, b_pi, b_lam, b_app, b_sigma, b_pair, b_fst, b_snd, b_cum}
+use Rattle.lego_laws.specs.Ranges.{Bounded, b_prop, b_univ, b_var, b_const, b_pi_prop, b_pi, b_lam, b_app, b_sigma, b_pair, b_fst, b_snd, b_let, b_cum}
 use Rattle.lego_laws.proofs.Rules.{local_at, type_in_list}
 use Rattle.lego_laws.proofs.Highest.{has_under}
 
@@ -52,6 +52,7 @@ mutual
       pair_case h.0 h.1 (bounded_within limit d (omega arith)).0 (bounded_within limit f (omega arith)).0
   bounded_within limit (Has.first d) le = let h = bounded_within limit d le in (b_fst h.0, h.1)
   bounded_within limit (Has.second d) le = let h = bounded_within limit d le in (b_snd h.0, h.1)
+  bounded_within limit (Has.local d f) le = let h = bounded_within limit d (omega arith) in (b_let h.0 (bounded_within limit f (omega arith)).0, h.1)
   bounded_within limit (Has.cumulative d f l) le = let h = bounded_within limit d (omega arith) in (b_cum h.0 l, h.1)
 
 -- the working derivation of a judgement, with the bound

@@ -1,7 +1,7 @@
 -- Head forms are below each other exactly by their parts.
 use Rattle.std.proofs.Common.{ℕ, arith}
-use Rattle.lego_term.specs.Trees.{Term, Var, Const, Prop, Univ, Pi, Lam, App, Sigma, Pair, Fst, Snd}
-use Rattle.lego_laws.specs.Parallel.{TermBodies, ParallelStep, p_var, p_const, p_prop, p_univ, p_pi, p_lam, p_app, p_sigma, p_pair, p_fst, p_snd, p_beta, p_first, p_second, p_unfold, Star, stop, go}
+use Rattle.lego_term.specs.Trees.{Term, Var, Const, Prop, Univ, Pi, Lam, App, Sigma, Pair, Fst, Snd, Let}
+use Rattle.lego_laws.specs.Parallel.{TermBodies, ParallelStep, p_var, p_const, p_prop, p_univ, p_pi, p_lam, p_app, p_sigma, p_pair, p_fst, p_snd, p_let, p_local, p_beta, p_first, p_second, p_unfold, Star, stop, go}
 use Rattle.lego_term.specs.Steps.{Converts}
 use Rattle.lego_term.specs.Below.{Below}
 use Rattle.lego_laws.specs.HeadForms.{IsHeadForm, PartsBelow, at_var, at_const, at_prop, at_prop_univ, at_univ, at_pi, at_lam, at_app, at_sigma, at_pair, at_fst, at_snd, HeadFormsCompare}
@@ -24,18 +24,19 @@ pub data Ran (b : TermBodies) : Term → Term → Type 0 where
   r_fst : {m m' : Term} → Star (ParallelStep b) m m' → Ran b (Fst m) (Fst m')
   r_snd : {m m' : Term} → Star (ParallelStep b) m m' → Ran b (Snd m) (Snd m')
 
-ran_none : (b : TermBodies) (t : Term) → Ran b t t
-ran_none b (Var i) = r_var
-ran_none b (Const k) = r_const
-ran_none b Prop = r_prop
-ran_none b (Univ l) = r_univ
-ran_none b (Pi tt a c) = r_pi stop stop
-ran_none b (Lam tt a c) = r_lam stop stop
-ran_none b (App tt m n) = r_app stop stop
-ran_none b (Sigma tt a c) = r_sigma stop stop
-ran_none b (Pair tt a c m n) = r_pair stop stop stop stop
-ran_none b (Fst m) = r_fst stop
-ran_none b (Snd m) = r_snd stop
+ran_none : (b : TermBodies) (t : Term) → IsHeadForm b t → Ran b t t
+ran_none b (Var i) e = r_var
+ran_none b (Const k) e = r_const
+ran_none b Prop e = r_prop
+ran_none b (Univ l) e = r_univ
+ran_none b (Pi tt a c) e = r_pi stop stop
+ran_none b (Lam tt a c) e = r_lam stop stop
+ran_none b (App tt m n) e = r_app stop stop
+ran_none b (Sigma tt a c) e = r_sigma stop stop
+ran_none b (Let tt m n) e = cc
+ran_none b (Pair tt a c m n) e = r_pair stop stop stop stop
+ran_none b (Fst m) e = r_fst stop
+ran_none b (Snd m) e = r_snd stop
 
 ran_more : {b : TermBodies} {t u v : Term} → ParallelStep b t u → IsHeadForm b t → Ran b u v → Ran b t v
 ran_more p_var e r = r
@@ -46,6 +47,8 @@ ran_more (p_pi p q) e (r_pi r s) = r_pi (go p r) (go q s)
 ran_more (p_lam p q) e (r_lam r s) = r_lam (go p r) (go q s)
 ran_more (p_app p q) e (r_app r s) = r_app (go p r) (go q s)
 ran_more (p_sigma p q) e (r_sigma r s) = r_sigma (go p r) (go q s)
+ran_more (p_let p q) e r = cc
+ran_more (p_local p q) e r = cc
 ran_more (p_pair p q x y) e (r_pair r s w z) = r_pair (go p r) (go q s) (go x w) (go y z)
 ran_more (p_fst p) e (r_fst r) = r_fst (go p r)
 ran_more (p_snd p) e (r_snd r) = r_snd (go p r)
@@ -55,7 +58,7 @@ ran_more (p_second p) e r = cc
 ran_more (p_unfold f) e r = cc
 
 pub ran : {b : TermBodies} {t v : Term} → Star (ParallelStep b) t v → IsHeadForm b t → Ran b t v
-ran {b} {t} stop e = ran_none b t
+ran {b} {t} stop e = ran_none b t e
 ran (go s p) e = ran_more s e (ran p (kept s e).stays)
 
 compared : {b : TermBodies} {t u v w : Term} → Ran b t v → ByForm v w → Ran b u w → PartsBelow b t u

@@ -1,6 +1,6 @@
 -- Head steps are steps.
 use Rattle.std.proofs.Common.{◌≡◌, ℕ, zero, suc, Option, Some, None, option_map, option_and_then, refl, ◌⊎◌, inl, inr}
-use Rattle.lego_term.specs.Trees.{Tree, Const, Lam, App, Pair, Fst, Snd, Bodies}
+use Rattle.lego_term.specs.Trees.{Tree, Const, Lam, App, Pair, Fst, Snd, Bodies, Let}
 use Rattle.lego_term.specs.Steps.{Contracts, Step}
 use Rattle.lego_term.specs.Sequences.{or_else, contract_app, contract_fst, contract_snd, head_step, after}
 use Rattle.lego_laws.specs.Parallel.{Star, stop, go}
@@ -41,6 +41,7 @@ module _ {B M L : Type 0} (b : Bodies B M L) where
       elim (either_some (contract_fst m) (option_map Fst (head_step b m)) u e) [ inl c ↦ fst_contracts m u c | inr s ↦ inside Fst m u (λ x y p. Step.fst_operand p) (head_step-step m) s.1 ]
   head_step-step (Snd m) u e =
       elim (either_some (contract_snd m) (option_map Snd (head_step b m)) u e) [ inl c ↦ snd_contracts m u c | inr s ↦ inside Snd m u (λ x y p. Step.snd_operand p) (head_step-step m) s.1 ]
+  head_step-step (Let x m n) u e = rw (← some_is e) (Step.here Contracts.local)
   head_step-step _ u e = cc
 
   head_steps_from : (n : ℕ) (o : Option (Tree B M L)) (t u : Tree B M L) → ((x : Tree B M L) → after (head_step b) n x ≡ Some u → Star (Step b) x u) → head_step b t ≡ o → option_and_then (after (head_step b) n) o ≡ Some u → Star (Step b) t u

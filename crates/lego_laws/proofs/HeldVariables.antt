@@ -4,7 +4,7 @@ use Rattle.std.proofs.lemmas.Bool.Decides.{nat_tests}
 use Rattle.std.specs.List.{list_any}
 use Rattle.lego_term.specs.declared.level.Level.{Level}
 use Rattle.lego_term.specs.Levels.{Assignment, node_value, level_value, LevelPair, SatisfiesAll}
-use Rattle.lego_term.specs.Trees.{Core, Var, Const, Prop, Univ, Pi, Lam, App, Sigma, Pair, Fst, Snd, at, levels_of, is_over, uses_level}
+use Rattle.lego_term.specs.Trees.{Core, Var, Const, Prop, Univ, Pi, Lam, App, Sigma, Pair, Fst, Snd, at, levels_of, is_over, uses_level, Let}
 use Rattle.lego_laws.specs.Entries.{Entry, entry_at, entry_uses}
 use Rattle.lego_laws.specs.Ranges.{node_bound, level_bound, levels_bound}
 
@@ -28,7 +28,7 @@ pub any_back : {X : Type 0} (p : X → Bool) (xs ys : List X) → IsTrue (list_a
 any_back p [] ys h = h
 any_back p (x ∷ xs) ys h = or_right (p x) _ (any_back p xs ys h)
 
-any_split : {X : Type 0} (p : X → Bool) (xs ys : List X) → IsTrue (list_any p (xs ++ ys)) → IsTrue (list_any p xs) ⊎ IsTrue (list_any p ys)
+pub any_split : {X : Type 0} (p : X → Bool) (xs ys : List X) → IsTrue (list_any p (xs ++ ys)) → IsTrue (list_any p xs) ⊎ IsTrue (list_any p ys)
 any_split p [] ys h = inr h
 any_split p (x ∷ xs) ys h =
     ⊎_elim (λ (k : IsTrue (p x)). inl (or_left (p x) (list_any p xs) k)) (λ (k : IsTrue (list_any p (xs ++ ys))). ⊎_elim (λ (l : IsTrue (list_any p xs)). inl (or_right (p x) (list_any p xs) l)) (λ l. inr l) (any_split p xs ys k)) (or_cases (p x) (list_any p (xs ++ ys)) h)
@@ -60,6 +60,7 @@ uses_within u (Pi x a r) h = uses_both u (levels_of a) (levels_of r) (levels_bou
 uses_within u (Lam x a r) h = uses_both u (levels_of a) (levels_of r) (levels_bound a) (levels_bound r) (uses_within u a) (uses_within u r) h
 uses_within u (App k a r) h = uses_both u (levels_of a) (levels_of r) (levels_bound a) (levels_bound r) (uses_within u a) (uses_within u r) h
 uses_within u (Sigma x a r) h = uses_both u (levels_of a) (levels_of r) (levels_bound a) (levels_bound r) (uses_within u a) (uses_within u r) h
+uses_within u (Let x a r) h = uses_both u (levels_of a) (levels_of r) (levels_bound a) (levels_bound r) (uses_within u a) (uses_within u r) h
 uses_within u (Pair x a r m n) h =
     let e = uses_both u (levels_of a ++ levels_of r ++ levels_of m) (levels_of n) (max (max (levels_bound a) (levels_bound r)) (levels_bound m)) (levels_bound n)
     (uses_both u (levels_of a ++ levels_of r) (levels_of m) (max (levels_bound a) (levels_bound r)) (levels_bound m)
@@ -95,6 +96,7 @@ module _ (v w : Assignment) where
   at_same (Lam x a r) h = ap₂ (Lam tt) (at_same a (front (levels_of a) (levels_of r) h)) (at_same r (back (levels_of a) (levels_of r) h))
   at_same (App k a r) h = ap₂ (App tt) (at_same a (front (levels_of a) (levels_of r) h)) (at_same r (back (levels_of a) (levels_of r) h))
   at_same (Sigma x a r) h = ap₂ (Sigma tt) (at_same a (front (levels_of a) (levels_of r) h)) (at_same r (back (levels_of a) (levels_of r) h))
+  at_same (Let x a r) h = ap₂ (Let tt) (at_same a (front (levels_of a) (levels_of r) h)) (at_same r (back (levels_of a) (levels_of r) h))
   at_same (Pair x a r m n) h =
       let three = front (levels_of a ++ levels_of r ++ levels_of m) (levels_of n) h in
       let both = front (levels_of a ++ levels_of r) (levels_of m) three in

@@ -2,7 +2,7 @@
 use Rattle.std.proofs.Common.{◌≡◌, ℕ, suc, ◌≤◌, max, List, [], ◌∷◌, ◌++◌, fold, refl, arith}
 use Rattle.std.proofs.lemmas.List.Sums.{fold-append}
 use Rattle.std.proofs.lemmas.Bool.Decides.{nat_tests}
-use Rattle.lego_term.specs.Trees.{Term, Var, Const, Prop, Univ, Pi, Lam, App, Sigma, Pair, Fst, Snd, levels_of, lift, put, put_var, instantiate}
+use Rattle.lego_term.specs.Trees.{Term, Var, Const, Prop, Univ, Pi, Lam, App, Sigma, Pair, Fst, Snd, levels_of, lift, put, put_var, instantiate, Let}
 use Rattle.lego_laws.specs.Entries.{Constant}
 use Rattle.lego_laws.specs.Judgement.{Valid, Has}
 use Rattle.lego_laws.specs.Fitting.{highest, top, top_valid}
@@ -16,6 +16,7 @@ high (Pi x a r) = max (high a) (high r)
 high (Lam x a m) = max (high a) (high m)
 high (App k m n) = max (high m) (high n)
 high (Sigma x a r) = max (high a) (high r)
+high (Let x a r) = max (high a) (high r)
 high (Pair x a r m n) = max (max (high a) (high r)) (max (high m) (high n))
 high (Fst m) = high m
 high (Snd m) = high m
@@ -43,6 +44,7 @@ fold_from (Pair x a r m n) i =
     omega arith
 fold_from (Fst m) i = fold_from m i
 fold_from (Snd m) i = fold_from m i
+fold_from (Let x a r) i = from_both i (levels_of a) (levels_of r) (high a) (high r) (fold_from a) (fold_from r)
 
 pub highest_is : (t : Term) → highest t ≡ high t
 highest_is t = let e = fold_from t 0 in omega arith
@@ -56,6 +58,7 @@ high-lift from by (Pi x a r) = omega (arith, high-lift from by a, high-lift (suc
 high-lift from by (Lam x a r) = omega (arith, high-lift from by a, high-lift (suc from) by r)
 high-lift from by (App k m n) = omega (arith, high-lift from by m, high-lift from by n)
 high-lift from by (Sigma x a r) = omega (arith, high-lift from by a, high-lift (suc from) by r)
+high-lift from by (Let x a r) = omega (arith, high-lift from by a, high-lift (suc from) by r)
 high-lift from by (Pair x a r m n) = omega (arith, high-lift from by a, high-lift (suc from) by r, high-lift from by m, high-lift from by n)
 high-lift from by (Fst m) = high-lift from by m
 high-lift from by (Snd m) = high-lift from by m
@@ -72,6 +75,7 @@ high-put depth y (Pi x a r) = omega (arith, high-put depth y a, high-put (suc de
 high-put depth y (Lam x a r) = omega (arith, high-put depth y a, high-put (suc depth) y r)
 high-put depth y (App k m n) = omega (arith, high-put depth y m, high-put depth y n)
 high-put depth y (Sigma x a r) = omega (arith, high-put depth y a, high-put (suc depth) y r)
+high-put depth y (Let x a r) = omega (arith, high-put depth y a, high-put (suc depth) y r)
 high-put depth y (Pair x a r m n) = omega (arith, high-put depth y a, high-put (suc depth) y r, high-put depth y m, high-put depth y n)
 high-put depth y (Fst m) = high-put depth y m
 high-put depth y (Snd m) = high-put depth y m
@@ -79,6 +83,25 @@ high-put depth y (Snd m) = high-put depth y m
 high-instantiate : (m n : Term) → high (instantiate m n) ≤ max (high m) (high n)
 unfolding instantiate
 high-instantiate m n = high-put 0 n m
+
+-- substitution takes no universe away
+high-put_before : (depth : ℕ) (y t : Term) → high t ≤ high (put depth y t)
+high-put_before depth y (Var i) = omega arith
+high-put_before depth y (Const k) = omega arith
+high-put_before depth y Prop = omega arith
+high-put_before depth y (Univ l) = omega arith
+high-put_before depth y (Pi x a r) = omega (arith, high-put_before depth y a, high-put_before (suc depth) y r)
+high-put_before depth y (Lam x a r) = omega (arith, high-put_before depth y a, high-put_before (suc depth) y r)
+high-put_before depth y (App k m n) = omega (arith, high-put_before depth y m, high-put_before depth y n)
+high-put_before depth y (Sigma x a r) = omega (arith, high-put_before depth y a, high-put_before (suc depth) y r)
+high-put_before depth y (Pair x a r m n) = omega (arith, high-put_before depth y a, high-put_before (suc depth) y r, high-put_before depth y m, high-put_before depth y n)
+high-put_before depth y (Fst m) = high-put_before depth y m
+high-put_before depth y (Snd m) = high-put_before depth y m
+high-put_before depth y (Let x m n) = omega (arith, high-put_before depth y m, high-put_before (suc depth) y n)
+
+high_before : (n m : Term) → high n ≤ high (instantiate n m)
+unfolding instantiate
+high_before n m = high-put_before 0 m n
 
 abbrev pub LocalsUnder : ℕ → List Term → Type 0
 LocalsUnder limit [] = Unit {0}
@@ -160,6 +183,13 @@ mutual
       let n = h.term in
       let i = high-instantiate b (Fst m) in
       record { term = h.term; type = omega arith; locals = h.locals }
+  has_under limit (Has.local {m = m} {n = n} d f) le =
+      let h = has_under limit d (omega arith) in
+      let k = has_under limit f (omega arith) in
+      let i = h.term in
+      let j = k.term in
+      let l = high_before n m in
+      record { term = omega arith; type = k.type; locals = h.locals }
   has_under limit (Has.cumulative d f low) le =
       let h = has_under limit d (omega arith) in
       let k = has_under limit f (omega arith) in

@@ -6,7 +6,7 @@ use Rattle.lego_term.specs.Trees.{Core, Term, lift, at}
 use Rattle.lego_laws.specs.Parallel.{bodies_at}
 use Rattle.lego_laws.specs.Derivations.{v_local}
 use Rattle.lego_laws.specs.Ranges.{Agree, Solution}
-use Rattle.lego_laws.specs.Inference.{FitsProp, FitsVariable, FitsConstant, FitsUniverse, FitsLambda, FitsProposition, FitsProduct, FitsSigma, FitsApplication, FitsPair, FitsFirst, FitsSecond, FitsAgainst, FitsByOthers, FitsInWiderRange, ContextsWiden, ContextsGrow}
+use Rattle.lego_laws.specs.Inference.{FitsProp, FitsVariable, FitsConstant, FitsUniverse, FitsLambda, FitsProposition, FitsProduct, FitsSigma, FitsApplication, FitsPair, FitsFirst, FitsSecond, FitsAgainst, FitsAgainstWritten, FitsByOthers, FitsInWiderRange, ContextsWiden, ContextsGrow}
 use Rattle.lego_laws.proofs.Subst.{lift_more}
 use Rattle.lego_laws.proofs.Agreeing.{narrower, satisfies_agree, bodies_agree, bounded_agree, pairs_bound-append, agree_both, cut, cut_agree, cut_small}
 use Rattle.lego_laws.proofs.Satisfying.{satisfies_front, satisfies_back}
@@ -14,7 +14,7 @@ use Rattle.lego_laws.proofs.Solving.{below_with, sort_sound}
 use Rattle.lego_laws.proofs.FitsLeaf.{HasCoreLocal, first, later, prop_fits, var_fits, const_fits, univ_fits}
 use Rattle.lego_laws.proofs.FitsBinder.{lam_fits, sigma_fits, pi_prop_fits, pi_fits}
 use Rattle.lego_laws.proofs.FitsApp.{app_fits, fst_fits, snd_fits}
-use Rattle.lego_laws.proofs.FitsPair.{wanted_fits, pair_fits}
+use Rattle.lego_laws.proofs.FitsPair.{wanted_fits, written_fits, pair_fits}
 
 pub core_local_at : (g : List Core) (i : ℕ) (a : Core) → slice_get g i ≡ Some a → HasCoreLocal g i (lift 0 (suc i) a)
 core_local_at [] i a e = cc
@@ -60,6 +60,9 @@ fits_second n₀ n₁ c b held g x y m f a r k lm fm h = snd_fits n₀ n₁ c b 
 
 pub fits_against : FitsAgainst
 fits_against n₀ n₁ c b held g x m f a k k' la fm lk typed ok = wanted_fits n₀ n₁ c b held g x m f a k k' la fm lk typed ok
+
+pub fits_written : FitsAgainstWritten
+fits_written n₀ n₁ n₂ c b held g x m f a ta k₁ k₂ k₃ la fm fa s head lk ok = written_fits n₀ n₁ n₂ c b held g x m f a ta k₁ k₂ k₃ la fm fa s head lk ok
 
 pub fits_by_others : FitsByOthers
 fits_by_others n₀ n₁ c b held g m a k k' f le same =

@@ -1,10 +1,10 @@
 -- Generation, and type correctness.
 use Rattle.std.proofs.Common.{◌≡◌, ℕ, suc, ◌+◌, ◌≤◌, List, [], ◌∷◌, refl, arith, inl, inr}
-use Rattle.lego_term.specs.Trees.{Term, Var, Const, Prop, Univ, Pi, Lam, App, Sigma, Pair, Fst, Snd, instantiate, loose}
+use Rattle.lego_term.specs.Trees.{Term, Var, Const, Prop, Univ, Pi, Lam, App, Sigma, Pair, Fst, Snd, instantiate, loose, Let}
 use Rattle.lego_laws.specs.Parallel.{TermBodies, AreClosed}
 use Rattle.lego_term.specs.Steps.{Converts}
 use Rattle.lego_term.specs.Below.{Below}
-use Rattle.lego_laws.specs.Derivations.{HasLocal, Derives, d_prop, d_univ, d_var, d_const, d_pi_prop, d_pi, d_lam, d_app, d_sigma, d_pair, d_fst, d_snd, d_cum, Generated, ValidLocals, v_none, v_local, ValidConstants}
+use Rattle.lego_laws.specs.Derivations.{HasLocal, Derives, d_prop, d_univ, d_var, d_const, d_pi_prop, d_pi, d_lam, d_app, d_sigma, d_pair, d_fst, d_snd, d_let, d_cum, Generated, ValidLocals, v_none, v_local, ValidConstants}
 use Rattle.lego_laws.specs.Cumulativity.{ByForm}
 use Rattle.lego_laws.proofs.Below.{under-below}
 use Rattle.lego_laws.proofs.Parallel.{closed_rename}
@@ -26,6 +26,7 @@ raised c b g (Sigma _ a r) _ _ (j, d, e, p) q = (j, d, e, Below.chain p q)
 raised c b g (Pair _ a r m n) _ _ (i, j, d, e, x, y, p) q = (i, j, d, e, x, y, Below.chain p q)
 raised c b g (Fst m) _ _ (a, r, d, p) q = (a, r, d, Below.chain p q)
 raised c b g (Snd m) _ _ (a, r, d, p) q = (a, r, d, Below.chain p q)
+raised c b g (Let _ m n) _ _ (a, r, d, e, p) q = (a, r, d, e, Below.chain p q)
 
 pub generation : {c b : TermBodies} {g : List Term} {m t : Term} → Derives c b g m t → Generated c b g m t
 generation d_prop = at
@@ -40,6 +41,7 @@ generation (d_sigma {j = j} d e) = (j, d, e, at)
 generation (d_pair {i = i} {j = j} d e x y) = (i, j, d, e, x, y, at)
 generation (d_fst {a = a} {r = r} d) = (a, r, d, at)
 generation (d_snd {a = a} {r = r} d) = (a, r, d, at)
+generation (d_let {a = a} {q = q} d e) = (a, q, d, e, at)
 generation {c = c} {b = b} (d_cum {g = g} {m = m} d e l) = raised c b g m _ _ (generation d) l
 
 module _ (c b : TermBodies) (types : AreClosed c) (bodies : AreClosed b) (valid : ValidConstants c b) where
@@ -79,4 +81,5 @@ module _ (c b : TermBodies) (types : AreClosed c) (bodies : AreClosed b) (valid 
   type_correct (d_pair {i = i} {j = j} d e x y) v = (i + j, d_sigma (climbs (i + j) (omega arith) d) (climbs (i + j) (omega arith) e))
   type_correct (d_fst d) v = let h = generation (type_correct d v).1 in (h.0, h.1)
   type_correct (d_snd d) v = let h = generation (type_correct d v).1 in (h.0, d-instantiate c b types bodies h.2 (d_fst d))
+  type_correct (d_let d e) v = type_correct e v
   type_correct (d_cum {j = j} d e l) v = (j, e)

@@ -1,7 +1,7 @@
 -- Steps bring no level but those of the bodies: what holds of each level before a step holds of each behind it.
 use Rattle.std.proofs.Common.{◌≡◌, ℕ, suc, ◌-◌, Bool, true, false, nat_lt, nat_eq, if◌then◌else◌, Some}
 use Rattle.lego_term.specs.declared.level.Level.{Level}
-use Rattle.lego_term.specs.Trees.{Core, Var, Const, Prop, Univ, Pi, Lam, App, Sigma, Pair, Fst, Snd, lift, put, put_var, instantiate}
+use Rattle.lego_term.specs.Trees.{Core, Var, Const, Prop, Univ, Pi, Lam, App, Sigma, Pair, Fst, Snd, lift, put, put_var, instantiate, Let}
 use Rattle.lego_term.specs.Steps.{Contracts, Step}
 use Rattle.lego_laws.specs.Parallel.{CoreBodies, Star, stop, go}
 
@@ -16,6 +16,7 @@ module _ (P : Level → Type 0) where
   Levels (Lam x a m) = Levels a × Levels m
   Levels (App k m n) = Levels m × Levels n
   Levels (Sigma x a r) = Levels a × Levels r
+  Levels (Let x a r) = Levels a × Levels r
   Levels (Pair x a r m n) = Levels a × Levels r × Levels m × Levels n
   Levels (Fst m) = Levels m
   Levels (Snd m) = Levels m
@@ -28,6 +29,7 @@ module _ (P : Level → Type 0) where
   levels_lifted from by (Pi x a r) h = (levels_lifted from by a h.0, levels_lifted (suc from) by r h.1)
   levels_lifted from by (Lam x a m) h = (levels_lifted from by a h.0, levels_lifted (suc from) by m h.1)
   levels_lifted from by (Sigma x a r) h = (levels_lifted from by a h.0, levels_lifted (suc from) by r h.1)
+  levels_lifted from by (Let x a r) h = (levels_lifted from by a h.0, levels_lifted (suc from) by r h.1)
   levels_lifted from by (App k m n) h = (levels_lifted from by m h.0, levels_lifted from by n h.1)
   levels_lifted from by (Pair x a r m n) h =
       (levels_lifted from by a h.0, levels_lifted (suc from) by r h.1, levels_lifted from by m h.2, levels_lifted from by n h.3)
@@ -50,6 +52,7 @@ module _ (P : Level → Type 0) where
   levels_put depth y (Pi x a r) g h = (levels_put depth y a g h.0, levels_put (suc depth) y r g h.1)
   levels_put depth y (Lam x a m) g h = (levels_put depth y a g h.0, levels_put (suc depth) y m g h.1)
   levels_put depth y (Sigma x a r) g h = (levels_put depth y a g h.0, levels_put (suc depth) y r g h.1)
+  levels_put depth y (Let x a r) g h = (levels_put depth y a g h.0, levels_put (suc depth) y r g h.1)
   levels_put depth y (App k m n) g h = (levels_put depth y m g h.0, levels_put depth y n g h.1)
   levels_put depth y (Pair x a r m n) g h =
       (levels_put depth y a g h.0, levels_put (suc depth) y r g h.1, levels_put depth y m g h.2, levels_put depth y n g h.3)
@@ -62,6 +65,7 @@ module _ (P : Level → Type 0) where
     levels_contracted (Contracts.beta {m = m} {n = n}) h = levels_put 0 n m h.1 h.0.1
     levels_contracted Contracts.first h = h.2
     levels_contracted Contracts.second h = h.3
+    levels_contracted (Contracts.local {m = m} {n = n}) h = levels_put 0 m n h.0 h.1
     levels_contracted (Contracts.unfolds {k = k} {m = m} e) h = of_bodies k m e
 
     pub levels_step : {t u : Core} → Step b t u → Levels t → Levels u
@@ -73,7 +77,9 @@ module _ (P : Level → Type 0) where
     levels_step (Step.function s) h = (levels_step s h.0, h.1)
     levels_step (Step.argument s) h = (h.0, levels_step s h.1)
     levels_step (Step.sigma_domain s) h = (levels_step s h.0, h.1)
+    levels_step (Step.local_value s) h = (levels_step s h.0, h.1)
     levels_step (Step.sigma_body s) h = (h.0, levels_step s h.1)
+    levels_step (Step.local_body s) h = (h.0, levels_step s h.1)
     levels_step (Step.pair_domain s) h = (levels_step s h.0, h.1, h.2, h.3)
     levels_step (Step.pair_body s) h = (h.0, levels_step s h.1, h.2, h.3)
     levels_step (Step.pair_first s) h = (h.0, h.1, levels_step s h.2, h.3)

@@ -1,6 +1,6 @@
 -- The bound on the level variables of lifted and substituted terms, and of terms that steps reach.
 use Rattle.std.proofs.Common.{◌≡◌, ℕ, ◌≤◌, max, Some, arith}
-use Rattle.lego_term.specs.Trees.{Core, Var, Const, Prop, Univ, Pi, Lam, App, Sigma, Pair, Fst, Snd, lift, instantiate}
+use Rattle.lego_term.specs.Trees.{Core, Var, Const, Prop, Univ, Pi, Lam, App, Sigma, Pair, Fst, Snd, lift, instantiate, Let}
 use Rattle.lego_term.specs.Steps.{Step}
 use Rattle.lego_laws.specs.Parallel.{CoreBodies, Star}
 use Rattle.lego_laws.specs.Ranges.{level_bound, levels_bound}
@@ -17,6 +17,7 @@ module _ (top : ℕ) where
   each_within (Lam x a m) h = (each_within a (omega arith), each_within m (omega arith))
   each_within (App k m n) h = (each_within m (omega arith), each_within n (omega arith))
   each_within (Sigma x a r) h = (each_within a (omega arith), each_within r (omega arith))
+  each_within (Let x a r) h = (each_within a (omega arith), each_within r (omega arith))
   each_within (Pair x a r m n) h = (each_within a (omega arith), each_within r (omega arith), each_within m (omega arith), each_within n (omega arith))
   each_within (Fst m) h = each_within m h
   each_within (Snd m) h = each_within m h
@@ -30,6 +31,7 @@ module _ (top : ℕ) where
   all_within (Lam x a m) h = let i = all_within a h.0 in let j = all_within m h.1 in omega arith
   all_within (App k m n) h = let i = all_within m h.0 in let j = all_within n h.1 in omega arith
   all_within (Sigma x a r) h = let i = all_within a h.0 in let j = all_within r h.1 in omega arith
+  all_within (Let x a r) h = let i = all_within a h.0 in let j = all_within r h.1 in omega arith
   all_within (Pair x a r m n) h =
       let i = all_within a h.0 in
       let j = all_within r h.1 in

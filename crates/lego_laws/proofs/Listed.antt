@@ -1,27 +1,9 @@
 -- Numbers that are listed, and the variables that stand for them.
-use Rattle.std.proofs.Common.{◌≡◌, ℕ, suc, nat_eq, Bool, true, false, cond, length, Option, Some, None, option_map, unwrap_or, List, [], ◌∷◌, ◌++◌, refl, ap, ap₂, ◌∙◌, arith}
+use Rattle.std.proofs.Common.{◌≡◌, ℕ, suc, nat_eq, Bool, true, false, cond, length, Option, Some, None, option_map, unwrap_or, List, [], ◌∷◌, ◌++◌, refl, ap, ◌∙◌, arith}
 use Rattle.std.proofs.lemmas.Bool.Decides.{nat_tests}
 use Rattle.std.proofs.lemmas.List.{length-append}
-use Rattle.lego_term.specs.Trees.{Term, Var, Const, Pi, Lam, App, Sigma, Fst, Snd, lift, listed_variable}
-use Rattle.lego_laws.specs.Parallel.{TermBodies}
-use Rattle.lego_laws.specs.Derivations.{Derives, d_prop, d_univ, d_var, d_const, d_pi_prop, d_pi, d_lam, d_app, d_sigma, d_pair, d_fst, d_snd, d_cum}
-use Rattle.lego_laws.specs.Replacement.{raised, replace, listed_as_locals}
-
--- a typed term's replacement depends on the constants that have types alone
-pub replaced_agree : {c b : TermBodies} (s r : ℕ → Term) → ((k : ℕ) (a : Term) → c k ≡ Some a → s k ≡ r k) → {g : List Term} {m a : Term} → Derives c b g m a → replace s m ≡ replace r m
-replaced_agree s r h d_prop = refl
-replaced_agree s r h d_univ = refl
-replaced_agree s r h (d_var l) = refl
-replaced_agree s r h (d_const {k = k} {a = a} e) = h k a e
-replaced_agree s r h (d_pi_prop d e) = ap₂ (Pi tt) (replaced_agree s r h d) (replaced_agree (raised s) (raised r) (λ k a q. ap (lift 0 1) (h k a q)) e)
-replaced_agree s r h (d_pi d e) = ap₂ (Pi tt) (replaced_agree s r h d) (replaced_agree (raised s) (raised r) (λ k a q. ap (lift 0 1) (h k a q)) e)
-replaced_agree s r h (d_lam d e) = ap₂ (Lam tt) (replaced_agree s r h d) (replaced_agree (raised s) (raised r) (λ k a q. ap (lift 0 1) (h k a q)) e)
-replaced_agree s r h (d_app d e) = ap₂ (App tt) (replaced_agree s r h d) (replaced_agree s r h e)
-replaced_agree s r h (d_sigma d e) = ap₂ (Sigma tt) (replaced_agree s r h d) (replaced_agree (raised s) (raised r) (λ k a q. ap (lift 0 1) (h k a q)) e)
-replaced_agree s r h (d_pair d e p q) = cc (replaced_agree s r h d, replaced_agree (raised s) (raised r) (λ k a q. ap (lift 0 1) (h k a q)) e, replaced_agree s r h p, replaced_agree s r h q)
-replaced_agree s r h (d_fst d) = ap Fst (replaced_agree s r h d)
-replaced_agree s r h (d_snd d) = ap Snd (replaced_agree s r h d)
-replaced_agree s r h (d_cum d e l) = replaced_agree s r h d
+use Rattle.lego_term.specs.Trees.{Term, Var, Const, lift, listed_variable}
+use Rattle.lego_laws.specs.Replacement.{raised, listed_as_locals}
 
 last_by : (o : Bool) (i j : ℕ) (p q : Option ℕ) → cond o (Some i) p ≡ None → (p ≡ None → q ≡ Some 0) → cond o (Some j) q ≡ Some 0
 last_by true i j p q h k = cc

@@ -2,8 +2,8 @@
 use Rattle.std.proofs.Common.{◌≡◌, ℕ, suc, ◌-◌, Bool, true, false, nat_lt, nat_eq, if◌then◌else◌, refl, sym, ap, ap₂, ◌∙◌, Option, Some, None, option_map}
 use Rattle.lego_term.specs.Steps.{Contracts, Step, Converts}
 use Rattle.lego_term.specs.Sequences.{or_else, contract_app, contract_fst, contract_snd, head_step}
-use Rattle.lego_laws.specs.Parallel.{ParallelStep, p_var, p_const, p_prop, p_univ, p_pi, p_lam, p_app, p_sigma, p_pair, p_fst, p_snd, p_beta, p_first, p_second, p_unfold}
-use Rattle.lego_term.specs.Trees.{Tree, Var, Const, Prop, Univ, Pi, Lam, App, Sigma, Pair, Fst, Snd, map_tree, lift, put, put_var, instantiate, Bodies}
+use Rattle.lego_laws.specs.Parallel.{ParallelStep, p_var, p_const, p_prop, p_univ, p_pi, p_lam, p_app, p_sigma, p_pair, p_fst, p_snd, p_let, p_local, p_beta, p_first, p_second, p_unfold}
+use Rattle.lego_term.specs.Trees.{Tree, Var, Const, Prop, Univ, Pi, Lam, App, Sigma, Pair, Fst, Snd, map_tree, lift, put, put_var, instantiate, Bodies, Let}
 
 module _ {B B' M M' L L' : Type 0} (f : B → B') (g : M → M') (h : L → L') where
   pub map-lift : (from by : ℕ) (t : Tree B M L) → map_tree f g h (lift from by t) ≡ lift from by (map_tree f g h t)
@@ -15,6 +15,7 @@ module _ {B B' M M' L L' : Type 0} (f : B → B') (g : M → M') (h : L → L') 
   map-lift from by (Lam x a m) = cc (map-lift from by a, map-lift (suc from) by m)
   map-lift from by (App k m n) = cc (map-lift from by m, map-lift from by n)
   map-lift from by (Sigma x a b) = cc (map-lift from by a, map-lift (suc from) by b)
+  map-lift from by (Let x a b) = cc (map-lift from by a, map-lift (suc from) by b)
   map-lift from by (Pair x a b m n) = cc (map-lift from by a, map-lift (suc from) by b, map-lift from by m, map-lift from by n)
   map-lift from by (Fst m) = ap Fst (map-lift from by m)
   map-lift from by (Snd m) = ap Snd (map-lift from by m)
@@ -38,6 +39,7 @@ module _ {B B' M M' L L' : Type 0} (f : B → B') (g : M → M') (h : L → L') 
   map-put depth v (Lam x a m) = cc (map-put depth v a, map-put (suc depth) v m)
   map-put depth v (App k m n) = cc (map-put depth v m, map-put depth v n)
   map-put depth v (Sigma x a b) = cc (map-put depth v a, map-put (suc depth) v b)
+  map-put depth v (Let x a b) = cc (map-put depth v a, map-put (suc depth) v b)
   map-put depth v (Pair x a b m n) = cc (map-put depth v a, map-put (suc depth) v b, map-put depth v m, map-put depth v n)
   map-put depth v (Fst m) = ap Fst (map-put depth v m)
   map-put depth v (Snd m) = ap Snd (map-put depth v m)
@@ -63,6 +65,7 @@ module _ {B B' M M' L L' : Type 0} (f : B → B') (g : M → M') (h : L → L') 
   contracts-map (Contracts.beta {m = m} {n = n}) = rw (map-instantiate f g h m n) Contracts.beta
   contracts-map Contracts.first = Contracts.first
   contracts-map Contracts.second = Contracts.second
+  contracts-map (Contracts.local {m = m} {n = n}) = rw (map-instantiate f g h n m) Contracts.local
   contracts-map (Contracts.unfolds e) = Contracts.unfolds (ap (option_map (map_tree f g h)) e)
 
   pub step-map : {t u : Tree B M L} → Step b t u → Step mapped_bodies (map_tree f g h t) (map_tree f g h u)
@@ -74,7 +77,9 @@ module _ {B B' M M' L L' : Type 0} (f : B → B') (g : M → M') (h : L → L') 
   step-map (Step.function s) = Step.function (step-map s)
   step-map (Step.argument s) = Step.argument (step-map s)
   step-map (Step.sigma_domain s) = Step.sigma_domain (step-map s)
+  step-map (Step.local_value s) = Step.local_value (step-map s)
   step-map (Step.sigma_body s) = Step.sigma_body (step-map s)
+  step-map (Step.local_body s) = Step.local_body (step-map s)
   step-map (Step.pair_domain s) = Step.pair_domain (step-map s)
   step-map (Step.pair_body s) = Step.pair_body (step-map s)
   step-map (Step.pair_first s) = Step.pair_first (step-map s)
@@ -91,12 +96,14 @@ module _ {B B' M M' L L' : Type 0} (f : B → B') (g : M → M') (h : L → L') 
   parallel-map (p_lam p q) = p_lam (parallel-map p) (parallel-map q)
   parallel-map (p_app p q) = p_app (parallel-map p) (parallel-map q)
   parallel-map (p_sigma p q) = p_sigma (parallel-map p) (parallel-map q)
+  parallel-map (p_let p q) = p_let (parallel-map p) (parallel-map q)
   parallel-map (p_pair p q r s) = p_pair (parallel-map p) (parallel-map q) (parallel-map r) (parallel-map s)
   parallel-map (p_fst p) = p_fst (parallel-map p)
   parallel-map (p_snd p) = p_snd (parallel-map p)
   parallel-map (p_beta {m' = m} {n' = n} p q) = rw (map-instantiate f g h m n) (p_beta (parallel-map p) (parallel-map q))
   parallel-map (p_first p) = p_first (parallel-map p)
   parallel-map (p_second p) = p_second (parallel-map p)
+  parallel-map (p_local {m' = m} {n' = n} p q) = rw (map-instantiate f g h n m) (p_local (parallel-map p) (parallel-map q))
   parallel-map (p_unfold e) = p_unfold (ap (option_map (map_tree f g h)) e)
 
   pub converts-map : {t u : Tree B M L} → Converts b t u → Converts mapped_bodies (map_tree f g h t) (map_tree f g h u)
@@ -133,4 +140,5 @@ module _ {B B' M M' L L' : Type 0} (f : B → B') (g : M → M') (h : L → L') 
       ap₂ or_else (contract_snd-map m)
       (ap (option_map Snd) (head_step-map m) ∙ map-map (map_tree f g h) Snd Snd (map_tree f g h) (λ x. refl) (head_step b m))
       ∙ or_else-map (map_tree f g h) (contract_snd m) (option_map Snd (head_step b m))
+  head_step-map (Let x m n) = ap Some (sym (map-instantiate f g h n m))
   head_step-map _ = refl

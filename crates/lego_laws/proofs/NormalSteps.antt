@@ -1,6 +1,6 @@
 -- Steps of the normalisation sequence are steps, and those of a head form stay inside its parts.
 use Rattle.std.proofs.Common.{◌≡◌, Option, Some, None, option_map, inl, inr, refl, ap}
-use Rattle.lego_term.specs.Trees.{Tree, Var, Const, Prop, Univ, Pi, Lam, App, Sigma, Pair, Fst, Snd, Bodies}
+use Rattle.lego_term.specs.Trees.{Tree, Var, Const, Prop, Univ, Pi, Lam, App, Sigma, Pair, Fst, Snd, Bodies, Let}
 use Rattle.lego_term.specs.Steps.{Contracts, Step}
 use Rattle.lego_term.specs.Sequences.{or_else, head_step, normal_step}
 use Rattle.lego_laws.specs.HeadForms.{IsHeadForm}
@@ -64,6 +64,7 @@ module _ {B M L : Type 0} (b : Bodies B M L) where
         | inl p ↦ head_step-step b (Snd m) u p
         | inr q ↦ under Snd (normal_step b m) m u (λ _ _ s. Step.snd_operand s) (normal_step-step m) q.1
       ]
+  normal_step-step (Let x m n) u e = head_step-step b (Let x m n) u e
 
   -- a head step comes first
   pub head_first : (t u : Tree B M L) → head_step b t ≡ Some u → normal_step b t ≡ Some u
@@ -71,6 +72,7 @@ module _ {B M L : Type 0} (b : Bodies B M L) where
   head_first (App k m n) u e = ap (λ o. or_else o (or_else (option_map (λ z. App k z n) (normal_step b m)) (option_map (λ z. App k m z) (normal_step b n)))) e
   head_first (Fst m) u e = ap (λ o. or_else o (option_map Fst (normal_step b m))) e
   head_first (Snd m) u e = ap (λ o. or_else o (option_map Snd (normal_step b m))) e
+  head_first (Let x m n) u e = e
   head_first _ u e = cc
 
   -- what stands as the function of a head form, and as an operand of one

@@ -1,7 +1,7 @@
 -- Parallel steps over decorated trees: under substitution, and the complete development.
 use Rattle.std.proofs.Common.{◌≡◌, ℕ, zero, suc, Option, Some, None, refl, sym, ap, ap₂, ◌∙◌, arith}
-use Rattle.lego_term.specs.Trees.{Tree, Var, Const, Prop, Univ, Pi, Lam, App, Sigma, Pair, Fst, Snd, Bodies, instantiate, loose}
-use Rattle.lego_laws.specs.Parallel.{AreClosed, ParallelStep, p_var, p_const, p_prop, p_univ, p_pi, p_lam, p_app, p_sigma, p_pair, p_fst, p_snd, p_beta, p_first, p_second, p_unfold}
+use Rattle.lego_term.specs.Trees.{Tree, Var, Const, Prop, Univ, Pi, Lam, App, Sigma, Pair, Fst, Snd, Bodies, instantiate, loose, Let}
+use Rattle.lego_laws.specs.Parallel.{AreClosed, ParallelStep, p_var, p_const, p_prop, p_univ, p_pi, p_lam, p_app, p_sigma, p_pair, p_fst, p_snd, p_let, p_local, p_beta, p_first, p_second, p_unfold}
 use Rattle.lego_laws.proofs.Subst.{rename, up_ren, substitute, up, one, rename_is, up_var, substitute_fixes, substitute-instantiate, instantiate_is}
 
 pub p_refl : {B M L : Type 0} (b : Bodies B M L) (t : Tree B M L) → ParallelStep b t t
@@ -13,6 +13,7 @@ p_refl b (Pi x a c) = p_pi (p_refl b a) (p_refl b c)
 p_refl b (Lam x a m) = p_lam (p_refl b a) (p_refl b m)
 p_refl b (App k m n) = p_app (p_refl b m) (p_refl b n)
 p_refl b (Sigma x a c) = p_sigma (p_refl b a) (p_refl b c)
+p_refl b (Let x a c) = p_let (p_refl b a) (p_refl b c)
 p_refl b (Pair x a c m n) = p_pair (p_refl b a) (p_refl b c) (p_refl b m) (p_refl b n)
 p_refl b (Fst m) = p_fst (p_refl b m)
 p_refl b (Snd m) = p_snd (p_refl b m)
@@ -38,12 +39,14 @@ module _ {B M L : Type 0} (b : Bodies B M L) (closed : AreClosed b) where
   p-rename f (p_lam p q) = p_lam (p-rename f p) (p-rename (up_ren f) q)
   p-rename f (p_app p q) = p_app (p-rename f p) (p-rename f q)
   p-rename f (p_sigma p q) = p_sigma (p-rename f p) (p-rename (up_ren f) q)
+  p-rename f (p_let p q) = p_let (p-rename f p) (p-rename (up_ren f) q)
   p-rename f (p_pair p q r s) = p_pair (p-rename f p) (p-rename (up_ren f) q) (p-rename f r) (p-rename f s)
   p-rename f (p_fst p) = p_fst (p-rename f p)
   p-rename f (p_snd p) = p_snd (p-rename f p)
   p-rename f (p_beta p q) = rw rename-instantiate (p_beta (p-rename (up_ren f) p) (p-rename f q))
   p-rename f (p_first p) = p_first (p-rename f p)
   p-rename f (p_second p) = p_second (p-rename f p)
+  p-rename f (p_local p q) = rw rename-instantiate (p_local (p-rename f p) (p-rename (up_ren f) q))
   p-rename f (p_unfold {k = k} {t = t} e) = rw (closed_rename f t (closed k t e)) (p_unfold e)
 
   p-up : (s r : ℕ → Tree B M L) → ((i : ℕ) → ParallelStep b (s i) (r i)) → (i : ℕ) → ParallelStep b (up s i) (up r i)
@@ -59,12 +62,14 @@ module _ {B M L : Type 0} (b : Bodies B M L) (closed : AreClosed b) where
   p-substitute s r h (p_lam p q) = p_lam (p-substitute s r h p) (p-substitute (up s) (up r) (p-up s r h) q)
   p-substitute s r h (p_app p q) = p_app (p-substitute s r h p) (p-substitute s r h q)
   p-substitute s r h (p_sigma p q) = p_sigma (p-substitute s r h p) (p-substitute (up s) (up r) (p-up s r h) q)
+  p-substitute s r h (p_let p q) = p_let (p-substitute s r h p) (p-substitute (up s) (up r) (p-up s r h) q)
   p-substitute s r h (p_pair p q m n) = p_pair (p-substitute s r h p) (p-substitute (up s) (up r) (p-up s r h) q) (p-substitute s r h m) (p-substitute s r h n)
   p-substitute s r h (p_fst p) = p_fst (p-substitute s r h p)
   p-substitute s r h (p_snd p) = p_snd (p-substitute s r h p)
   p-substitute s r h (p_beta p q) = rw substitute-instantiate (p_beta (p-substitute (up s) (up r) (p-up s r h) p) (p-substitute s r h q))
   p-substitute s r h (p_first p) = p_first (p-substitute s r h p)
   p-substitute s r h (p_second p) = p_second (p-substitute s r h p)
+  p-substitute s r h (p_local p q) = rw substitute-instantiate (p_local (p-substitute s r h p) (p-substitute (up s) (up r) (p-up s r h) q))
   p-substitute s r h (p_unfold {k = k} {t = t} e) = rw (closed_substitute r t (closed k t e)) (p_unfold e)
 
   p-one : {n n' : Tree B M L} → ParallelStep b n n' → (i : ℕ) → ParallelStep b (one n i) (one n' i)
@@ -89,6 +94,7 @@ module _ {B M L : Type 0} (b : Bodies B M L) (closed : AreClosed b) where
   develop (App k (Lam x a m) n) = instantiate (develop m) (develop n)
   develop (App k m n) = App k (develop m) (develop n)
   develop (Sigma x a c) = Sigma x (develop a) (develop c)
+  develop (Let x m n) = instantiate (develop n) (develop m)
   develop (Pair x a c m n) = Pair x (develop a) (develop c) (develop m) (develop n)
   develop (Fst (Pair x a c m n)) = develop m
   develop (Fst m) = Fst (develop m)
@@ -111,6 +117,8 @@ module _ {B M L : Type 0} (b : Bodies B M L) (closed : AreClosed b) where
   triangle (p_app (p_lam p q) r) = p_beta (triangle q) (triangle r)
   triangle (p_app p q) = p_app (triangle p) (triangle q)
   triangle (p_sigma p q) = p_sigma (triangle p) (triangle q)
+  triangle (p_let p q) = p_local (triangle p) (triangle q)
+  triangle (p_local p q) = p-instantiate (triangle q) (triangle p)
   triangle (p_pair p q r s) = p_pair (triangle p) (triangle q) (triangle r) (triangle s)
   triangle (p_fst (p_pair p q r s)) = p_first (triangle r)
   triangle (p_fst p) = p_fst (triangle p)

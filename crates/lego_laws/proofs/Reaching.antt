@@ -2,7 +2,7 @@
 use Rattle.std.proofs.Common.{◌≡◌, ℕ, Option, Some, None, List, [], ◌∷◌, ◌++◌, refl}
 use Rattle.lego_term.specs.declared.binder.Binder.{Binder}
 use Rattle.lego_term.specs.declared.binder.Mark.{Mark}
-use Rattle.lego_term.specs.Trees.{Core, Var, Const, Prop, Univ, Pi, Lam, App, Sigma, Pair, Fst, Snd}
+use Rattle.lego_term.specs.Trees.{Core, Var, Const, Prop, Univ, Pi, Lam, App, Sigma, Pair, Fst, Snd, Let}
 use Rattle.lego_term.specs.Parts.{Branch, parts_of}
 use Rattle.lego_term.specs.Sequences.{normal_step, after, Ends}
 use Rattle.lego_laws.specs.Parallel.{CoreBodies}
@@ -88,6 +88,7 @@ module _ (b : CoreBodies) where
       (λ m' w lm i qs k. reach_last (branch None a' ∷ branch (Some x) r' ∷ branch None m' ∷ []) (Pair x a' r' m') (λ t. Unit {0}) (λ t u w s. (rw (la, lr, lm, s) refl, tt)) None (λ u. refl) n tt k) k) k) h
   reached (Fst m) e h = reach_last [] Fst (IsOperand b) (λ t u w s. in_fst b t u w s) None (λ u. refl) m (fst_stuck b m e) h
   reached (Snd m) e h = reach_last [] Snd (IsOperand b) (λ t u w s. in_snd b t u w s) None (λ u. refl) m (snd_stuck b m e) h
+  reached (Let x m n) e h = cc
 
   ended : (t : Core) {n : ℕ} {qs : List Branch} → IsHeadForm b t → PartsEnd b (parts_of t) n qs → Ended t n qs
   ended (Var i) e h = leaf_end (Var i) refl refl h
@@ -113,6 +114,7 @@ module _ (b : CoreBodies) where
       (λ m' w lm i qs k. finish_last (branch None a' ∷ branch (Some x) r' ∷ branch None m' ∷ []) (Pair x a' r' m') (λ t. Unit {0}) (λ t u w s. (rw (la, lr, lm, s) refl, tt)) None (λ u. refl) (λ u w s. rw (la, lr, lm, s) refl) n tt k) k) k) h
   ended (Fst m) e h = finish_last [] Fst (IsOperand b) (λ t u w s. in_fst b t u w s) None (λ u. refl) (λ u w s. rw (fst_stands b u w.0 w.1, s) refl) m (fst_stuck b m e) h
   ended (Snd m) e h = finish_last [] Snd (IsOperand b) (λ t u w s. in_snd b t u w s) None (λ u. refl) (λ u w s. rw (snd_stands b u w.0 w.1, s) refl) m (snd_stuck b m e) h
+  ended (Let x m n) e h = cc
 
 pub parts_are_reached : PartsAreReached
 parts_are_reached b t n qs e h = let r = reached b t e h in (r.u, r.steps, r.parts)

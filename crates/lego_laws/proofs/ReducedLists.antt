@@ -1,12 +1,12 @@
 -- Lists of constants whose types and bodies are reduced.
 use Rattle.std.proofs.Common.{◌≡◌, ℕ, Bool, true, false, cond, nat_eq, Option, Some, None, option_map, option_and_then, List, [], ◌∷◌, map, refl, sym, ap, ap₂, ◌∙◌, subst}
-use Rattle.lego_term.specs.Trees.{Term, Var, Const, Prop, Univ, Pi, Lam, App, Sigma, Pair, Fst, Snd, replace_constants}
+use Rattle.lego_term.specs.Trees.{Term, Var, Const, Prop, Univ, Pi, Lam, App, Sigma, Pair, Fst, Snd, replace_constants, Let}
 use Rattle.lego_term.specs.Steps.{Contracts, Step, Converts}
 use Rattle.lego_term.specs.Below.{Below}
 use Rattle.lego_laws.specs.Parallel.{Star}
 use Rattle.lego_laws.specs.Entries.{Constant, constant_of, bodies_of}
 use Rattle.lego_laws.specs.Derivations.{types_of, Derives, d_const, d_cum, ValidLocals, v_none, ValidConstants}
-use Rattle.lego_laws.specs.Reduced.{BodyReduces, Reduces, nothing, reduced, ReducedListsAreValid, JudgementsOverReducedLists}
+use Rattle.lego_laws.specs.Reduced.{BodyReduces, ReducesTo, nothing, reduced, ReducedListsAreValid, JudgementsOverReducedLists}
 use Rattle.lego_laws.proofs.CommonReducts.{convert_run}
 use Rattle.lego_laws.proofs.Rules.{ValidTypes, known, derived, judged, valid_types, valid_locals}
 use Rattle.lego_laws.proofs.Entries.{Extends, more_derives, more_convert, HasItsType, ValidBodies, types_kept, bodies_kept, valid_constants, types_closed, bodies_closed}
@@ -26,6 +26,7 @@ none_replaced (Pi x a r) = ap₂ (Pi tt) (none_replaced a) (none_replaced r)
 none_replaced (Lam x a r) = ap₂ (Lam tt) (none_replaced a) (none_replaced r)
 none_replaced (App k m n) = ap₂ (App tt) (none_replaced m) (none_replaced n)
 none_replaced (Sigma x a r) = ap₂ (Sigma tt) (none_replaced a) (none_replaced r)
+none_replaced (Let x a r) = ap₂ (Let tt) (none_replaced a) (none_replaced r)
 none_replaced (Pair x a r m n) = cc (none_replaced a, none_replaced r, none_replaced m, none_replaced n)
 none_replaced (Fst m) = ap Fst (none_replaced m)
 none_replaced (Snd m) = ap Snd (none_replaced m)
@@ -114,7 +115,7 @@ module _ (e l : List Constant) (v : ValidTypes e) (w : ValidBodies e) (x : Fills
 renumbered : (e e' : Constant) (es l : List Constant) → e'.number ≡ e.number → FillsTo es (record { number = e.number; ty = e'.ty; body = e'.body } ∷ l) (λ k. None) → FillsTo es (e' ∷ l) (λ k. None)
 renumbered e e' es l is f = subst (λ z. FillsTo es (record { number = z; ty = e'.ty; body = e'.body } ∷ l) (λ k. None)) (sym is) f
 
-pub reduces : {es l : List Constant} → Reduces es l → ValidTypes es → ValidBodies es → FillsTo es l (λ k. None)
+pub reduces : {es l : List Constant} → ReducesTo es l → ValidTypes es → ValidBodies es → FillsTo es l (λ k. None)
 reduces nothing v w = nothing_yet
 reduces (reduced {e = e} {e' = e'} {es = es} {es' = l} is p q r) (new, (j, d), v) (t, w) =
     renumbered e e' (e ∷ es) l is (next_reduced es l v w (reduces r v w) e.number e.ty e'.ty e.body e'.body new j d t p q)

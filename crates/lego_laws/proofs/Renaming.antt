@@ -3,7 +3,7 @@ use Rattle.std.proofs.Common.{◌≡◌, ℕ, zero, suc, List, ◌∷◌, sym, a
 use Rattle.lego_term.specs.Trees.{Term, Var, Univ, instantiate, lift}
 use Rattle.lego_laws.specs.Parallel.{TermBodies, AreClosed}
 use Rattle.lego_term.specs.Below.{Below}
-use Rattle.lego_laws.specs.Derivations.{HasLocal, Derives, d_prop, d_univ, d_var, d_const, d_pi_prop, d_pi, d_lam, d_app, d_sigma, d_pair, d_fst, d_snd, d_cum}
+use Rattle.lego_laws.specs.Derivations.{HasLocal, Derives, d_prop, d_univ, d_var, d_const, d_pi_prop, d_pi, d_lam, d_app, d_sigma, d_pair, d_fst, d_snd, d_let, d_cum}
 use Rattle.lego_laws.proofs.Subst.{lift_one, rename, up_ren, substitute, up, one, rename_is, rename-rename, substitute_var, substitute-rename, rename-substitute, substitute-instantiate, instantiate_is}
 use Rattle.lego_laws.proofs.Substituted.{convert-substitute}
 use Rattle.lego_laws.proofs.Parallel.{closed_rename, closed_substitute, rename-instantiate}
@@ -51,6 +51,7 @@ module _ (c b : TermBodies) (types : AreClosed c) (bodies : AreClosed b) where
       d_pair (d-rename f p h r) (d-rename (up_ren f) q (rename f a ∷ h) (renames_up f g h a r)) (d-rename f s h r) (rw (← rename-instantiate f c' m) (d-rename f t h r))
   d-rename f (d_fst p) h r = d_fst (d-rename f p h r)
   d-rename f (d_snd p) h r = rw rename-instantiate (d_snd (d-rename f p h r))
+  d-rename f (d_let {m = m} {n = n} p q) h r = d_let (d-rename f p h r) (rw (← rename-instantiate f n m) (d-rename f q h r))
   d-rename f (d_cum p q l) h r = d_cum (d-rename f p h r) (d-rename f q h r) (below-rename b bodies f l)
 
   -- the terms of a substitution have the types of the variables
@@ -78,6 +79,7 @@ module _ (c b : TermBodies) (types : AreClosed c) (bodies : AreClosed b) where
       d_pair (d-substitute s p h r) (d-substitute (up s) q (substitute s a ∷ h) (substitutes_up s g h a r)) (d-substitute s t h r) (rw (← substitute-instantiate s c' m) (d-substitute s u h r))
   d-substitute s (d_fst p) h r = d_fst (d-substitute s p h r)
   d-substitute s (d_snd p) h r = rw substitute-instantiate (d_snd (d-substitute s p h r))
+  d-substitute s (d_let {m = m} {n = n} p q) h r = d_let (d-substitute s p h r) (rw (← substitute-instantiate s n m) (d-substitute s q h r))
   d-substitute s (d_cum p q l) h r = d_cum (d-substitute s p h r) (d-substitute s q h r) (below-substitute b bodies s l)
 
   -- one term for the innermost variable

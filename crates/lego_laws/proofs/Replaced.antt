@@ -1,11 +1,11 @@
 -- A derivation under a replacement of the constants.
 use Rattle.std.proofs.Common.{◌≡◌, ℕ, zero, suc, Some, List, [], ◌∷◌, refl, sym, ap, ap₂, ◌∙◌}
 use mathlib.Core.Path.{fun_ext}
-use Rattle.lego_term.specs.Trees.{Term, Var, Const, Prop, Univ, Pi, Lam, App, Sigma, Pair, Fst, Snd, lift, instantiate, loose}
+use Rattle.lego_term.specs.Trees.{Term, Var, Const, Prop, Univ, Pi, Lam, App, Sigma, Pair, Fst, Snd, lift, instantiate, loose, Let}
 use Rattle.lego_laws.specs.Parallel.{TermBodies, AreClosed}
 use Rattle.lego_term.specs.Steps.{Step, Contracts, Converts}
 use Rattle.lego_term.specs.Below.{Below}
-use Rattle.lego_laws.specs.Derivations.{HasLocal, Derives, d_prop, d_univ, d_var, d_const, d_pi_prop, d_pi, d_lam, d_app, d_sigma, d_pair, d_fst, d_snd, d_cum}
+use Rattle.lego_laws.specs.Derivations.{HasLocal, Derives, d_prop, d_univ, d_var, d_const, d_pi_prop, d_pi, d_lam, d_app, d_sigma, d_pair, d_fst, d_snd, d_let, d_cum}
 use Rattle.lego_laws.specs.Replacement.{raised, replace, under_locals, replaced_locals}
 use Rattle.lego_laws.proofs.Subst.{rename, up_ren, substitute, up, one, rename_is, rename-rename, substitute-rename, rename-substitute, substitute_var, instantiate_is, lift_one}
 use Rattle.lego_laws.proofs.Parallel.{closed_rename}
@@ -26,6 +26,7 @@ replace-rename f s (Univ l) = refl
 replace-rename f s (Pi tt a r) = cc (replace-rename f s a, replace-rename (up_ren f) (raised s) r, raised-rename f s)
 replace-rename f s (Lam tt a m) = cc (replace-rename f s a, replace-rename (up_ren f) (raised s) m, raised-rename f s)
 replace-rename f s (Sigma tt a r) = cc (replace-rename f s a, replace-rename (up_ren f) (raised s) r, raised-rename f s)
+replace-rename f s (Let tt a r) = cc (replace-rename f s a, replace-rename (up_ren f) (raised s) r, raised-rename f s)
 replace-rename f s (App tt m n) = ap₂ (App tt) (replace-rename f s m) (replace-rename f s n)
 replace-rename f s (Pair tt a r m n) = cc (replace-rename f s a, replace-rename (up_ren f) (raised s) r, replace-rename f s m, replace-rename f s n, raised-rename f s)
 replace-rename f s (Fst m) = ap Fst (replace-rename f s m)
@@ -53,6 +54,7 @@ replace-substitute r s s₁ h (Univ l) = refl
 replace-substitute r s s₁ h (Pi tt a y) = let e = replace-up s r in let u = replace-substitute (up r) (raised s) (raised s₁) (λ k. ap (λ z. substitute z (raised s₁ k)) e ∙ raised-substitute (λ i. replace s (r i)) s s₁ h k) y in ap₂ (Pi tt) (replace-substitute r s s₁ h a) (u ∙ ap (λ z. substitute z (replace (raised s₁) y)) e)
 replace-substitute r s s₁ h (Lam tt a y) = let e = replace-up s r in let u = replace-substitute (up r) (raised s) (raised s₁) (λ k. ap (λ z. substitute z (raised s₁ k)) e ∙ raised-substitute (λ i. replace s (r i)) s s₁ h k) y in ap₂ (Lam tt) (replace-substitute r s s₁ h a) (u ∙ ap (λ z. substitute z (replace (raised s₁) y)) e)
 replace-substitute r s s₁ h (Sigma tt a y) = let e = replace-up s r in let u = replace-substitute (up r) (raised s) (raised s₁) (λ k. ap (λ z. substitute z (raised s₁ k)) e ∙ raised-substitute (λ i. replace s (r i)) s s₁ h k) y in ap₂ (Sigma tt) (replace-substitute r s s₁ h a) (u ∙ ap (λ z. substitute z (replace (raised s₁) y)) e)
+replace-substitute r s s₁ h (Let tt a y) = let e = replace-up s r in let u = replace-substitute (up r) (raised s) (raised s₁) (λ k. ap (λ z. substitute z (raised s₁ k)) e ∙ raised-substitute (λ i. replace s (r i)) s s₁ h k) y in ap₂ (Let tt) (replace-substitute r s s₁ h a) (u ∙ ap (λ z. substitute z (replace (raised s₁) y)) e)
 replace-substitute r s s₁ h (App tt m n) = ap₂ (App tt) (replace-substitute r s s₁ h m) (replace-substitute r s s₁ h n)
 replace-substitute r s s₁ h (Pair tt a y m n) =
     let e = replace-up s r in let u = replace-substitute (up r) (raised s) (raised s₁) (λ k. ap (λ z. substitute z (raised s₁ k)) e ∙ raised-substitute (λ i. replace s (r i)) s s₁ h k) y in
@@ -95,13 +97,16 @@ module _ (b b' : TermBodies) (bc : AreClosed b) (bc' : AreClosed b') where
   r-step s x (Step.here (Contracts.beta {m = m} {n = n})) = rw (replace-instantiate s m n) (Converts.step (Step.here Contracts.beta))
   r-step s x (Step.here Contracts.first) = Converts.step (Step.here Contracts.first)
   r-step s x (Step.here Contracts.second) = Converts.step (Step.here Contracts.second)
+  r-step s x (Step.here (Contracts.local {m = m} {n = n})) = rw (replace-instantiate s n m) (Converts.step (Step.here Contracts.local))
   r-step s x (Step.here (Contracts.unfolds {k = k} {m = t} e)) = x k t e
   r-step s x (Step.pi_domain {b = y} p) = convert_map (λ z. Pi tt z (replace (raised s) y)) (λ _ _ q. Step.pi_domain q) (r-step s x p)
   r-step s x (Step.pi_body {a = y} p) = convert_map (Pi tt (replace s y)) (λ _ _ q. Step.pi_body q) (r-step (raised s) (raised_converts s x) p)
   r-step s x (Step.lam_domain {m = y} p) = convert_map (λ z. Lam tt z (replace (raised s) y)) (λ _ _ q. Step.lam_domain q) (r-step s x p)
   r-step s x (Step.lam_body {a = y} p) = convert_map (Lam tt (replace s y)) (λ _ _ q. Step.lam_body q) (r-step (raised s) (raised_converts s x) p)
   r-step s x (Step.sigma_domain {b = y} p) = convert_map (λ z. Sigma tt z (replace (raised s) y)) (λ _ _ q. Step.sigma_domain q) (r-step s x p)
+  r-step s x (Step.local_value {n = y} p) = convert_map (λ z. Let tt z (replace (raised s) y)) (λ _ _ q. Step.local_value q) (r-step s x p)
   r-step s x (Step.sigma_body {a = y} p) = convert_map (Sigma tt (replace s y)) (λ _ _ q. Step.sigma_body q) (r-step (raised s) (raised_converts s x) p)
+  r-step s x (Step.local_body {m = y} p) = convert_map (Let tt (replace s y)) (λ _ _ q. Step.local_body q) (r-step (raised s) (raised_converts s x) p)
   r-step s x (Step.function {n = y} p) = convert_map (λ z. App tt z (replace s y)) (λ _ _ q. Step.function q) (r-step s x p)
   r-step s x (Step.argument {m = y} p) = convert_map (App tt (replace s y)) (λ _ _ q. Step.argument q) (r-step s x p)
   r-step s x (Step.pair_domain {b = w2} {m = w3} {n = w4} p) = convert_map (λ z. Pair tt z (replace (raised s) w2) (replace s w3) (replace s w4)) (λ _ _ q. Step.pair_domain q) (r-step s x p)
@@ -156,4 +161,5 @@ module _ (s : ℕ → Term) (c b c' b' : TermBodies) (h : List Term) (tc : AreCl
   r-derives (d_pair {g = g} {r = r} {m = m} d e p q) = d_pair (r-derives d) (r-derives e) (r-derives p) (rw (← replace-instantiate (under_locals s g) r m) (r-derives q))
   r-derives (d_fst d) = d_fst (r-derives d)
   r-derives (d_snd {g = g} {r = r} {m = m} d) = rw (replace-instantiate (under_locals s g) r (Fst m)) (d_snd (r-derives d))
+  r-derives (d_let {g = g} {m = m} {n = n} d e) = d_let (r-derives d) (rw (← replace-instantiate (under_locals s g) n m) (r-derives e))
   r-derives (d_cum {g = g} d e l) = d_cum (r-derives d) (r-derives e) (r-below b b' bc bc' (under_locals s g) (deep g) l)

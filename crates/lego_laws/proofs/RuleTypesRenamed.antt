@@ -3,7 +3,7 @@ use Rattle.std.proofs.Common.{◌≡◌, ℕ, zero, suc, Option, Some, None, opt
 use Rattle.std.specs.List.{list_any}
 use mathlib.Core.Path.{fun_ext}
 use Rattle.lego_term.specs.declared.level.Level.{Level}
-use Rattle.lego_term.specs.Trees.{Core, Var, Const, Prop, Univ, Pi, Lam, App, Sigma, Pair, Fst, Snd, lift, instantiate, levels_of, is_over, uses_level}
+use Rattle.lego_term.specs.Trees.{Core, Var, Const, Prop, Univ, Pi, Lam, App, Sigma, Pair, Fst, Snd, lift, instantiate, levels_of, is_over, uses_level, Let}
 use Rattle.lego_term.specs.Sequences.{head_step, after, HeadForm}
 use Rattle.lego_laws.specs.Parallel.{CoreBodies}
 use Rattle.lego_laws.specs.Entries.{Entry, entry_of, core_bodies, entry_uses}
@@ -40,6 +40,7 @@ module _ (f : ℕ → ℕ) where
   stays (Lam x a r) h = ap₂ (Lam x) (stays a (front (levels_of a) (levels_of r) h)) (stays r (back (levels_of a) (levels_of r) h))
   stays (App k a r) h = ap₂ (App k) (stays a (front (levels_of a) (levels_of r) h)) (stays r (back (levels_of a) (levels_of r) h))
   stays (Sigma x a r) h = ap₂ (Sigma x) (stays a (front (levels_of a) (levels_of r) h)) (stays r (back (levels_of a) (levels_of r) h))
+  stays (Let x a r) h = ap₂ (Let x) (stays a (front (levels_of a) (levels_of r) h)) (stays r (back (levels_of a) (levels_of r) h))
   stays (Pair x a r m n) h =
       let three = front (levels_of a ++ levels_of r ++ levels_of m) (levels_of n) h in
       let both = front (levels_of a ++ levels_of r) (levels_of m) three in
@@ -117,6 +118,11 @@ module _ (f : ℕ → ℕ) where
       let ea : renamed f a ≡ a = cc e in
       let eb : renamed f b ≡ b = cc e in
       at_type (sym (ap₂ (Sigma x) ea eb)) RuleType.pair
+  renames (RuleType.local {m = m} {b = b} p) h =
+      let e = h.term in
+      let em : renamed f m ≡ m = cc e in
+      let eb : renamed f b ≡ b = cc e in
+      RuleType.local (renames p (part h (map-instantiate (λ x. x) (λ k. k) (renamed_level f) b m ∙ ap₂ instantiate eb em)))
   renames (RuleType.first {x = x} {a = a} {b = b} {m = m} {t = t} p q) h =
       let e = h.term in
       RuleType.first (renames p (part h (cc e))) (head_form-renamed _ h.bodies t (Sigma x a b) q)

@@ -22,10 +22,10 @@ ends_once f t u w i j p q =
 pub head_forms_are_unique : HeadFormsAreUnique
 head_forms_are_unique b t u w p q = ends_once (head_step b) t u w p.0 q.0 p.1 q.1
 
-one_head : {b : CoreBodies} {t t' u w : Core} → t ≡ t' → HeadForm b t u → HeadForm b t' w → u ≡ w
+pub one_head : {b : CoreBodies} {t t' u w : Core} → t ≡ t' → HeadForm b t u → HeadForm b t' w → u ≡ w
 one_head {b} {t} {t'} {u} {w} e p q = head_forms_are_unique b t' u w (subst (λ z. HeadForm b z u) e p) q
 
-pi_parts : {x y : Binder} {a a' b b' : Core} → Pi x a b ≡ Pi y a' b' → (a ≡ a') × (b ≡ b')
+pub pi_parts : {x y : Binder} {a a' b b' : Core} → Pi x a b ≡ Pi y a' b' → (a ≡ a') × (b ≡ b')
 pi_parts e = (cc, cc)
 
 sigma_parts : {x y : Binder} {a a' b b' : Core} → Sigma x a b ≡ Sigma y a' b' → (a ≡ a') × (b ≡ b')
@@ -47,6 +47,7 @@ one_rule_type RuleType.sigma RuleType.sigma = refl
 one_rule_type (RuleType.lambda {x = x} {a = a} p) (RuleType.lambda q) = ap (Pi x a) (one_rule_type p q)
 one_rule_type (RuleType.application {m = m} p h) (RuleType.application q i) = ap (λ z. instantiate z m) (pi_parts (one_head (one_rule_type p q) h i)).1
 one_rule_type RuleType.pair RuleType.pair = refl
+one_rule_type (RuleType.local p) (RuleType.local q) = one_rule_type p q
 one_rule_type (RuleType.first p h) (RuleType.first q i) = (sigma_parts (one_head (one_rule_type p q) h i)).0
 one_rule_type (RuleType.second {m = m} p h) (RuleType.second q i) = ap (λ z. instantiate z (Fst m)) (sigma_parts (one_head (one_rule_type p q) h i)).1
 

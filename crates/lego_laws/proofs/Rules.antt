@@ -1,7 +1,7 @@
 -- On valid lists the thirteen rules and the derivations over fixed constants give the same.
 use Rattle.std.proofs.Common.{◌≡◌, ℕ, zero, suc, Option, None, Some, List, [], ◌∷◌, slice_get, option_map, refl, sym, ap, ◌∙◌, subst}
 use Rattle.lego_term.specs.Trees.{Term, Var, Const, Univ, lift}
-use Rattle.lego_laws.specs.Derivations.{types_of, HasLocal, Derives, d_prop, d_univ, d_var, d_const, d_pi_prop, d_pi, d_lam, d_app, d_sigma, d_pair, d_fst, d_snd, d_cum, ValidLocals, v_none, v_local}
+use Rattle.lego_laws.specs.Derivations.{types_of, HasLocal, Derives, d_prop, d_univ, d_var, d_const, d_pi_prop, d_pi, d_lam, d_app, d_sigma, d_pair, d_fst, d_snd, d_let, d_cum, ValidLocals, v_none, v_local}
 use Rattle.lego_laws.specs.Entries.{Constant, constant_of, bodies_of}
 use Rattle.lego_laws.specs.Judgement.{Valid, Has}
 use Rattle.lego_laws.proofs.Subst.{lift_more}
@@ -57,6 +57,7 @@ mutual
   derived (Has.pair d f r) = let h = derived r in let u = under h.1 in (d_pair u.1 h.0 (derived d).0 (derived f).0, u.2)
   derived (Has.first d) = let h = derived d in (d_fst h.0, h.1)
   derived (Has.second d) = let h = derived d in (d_snd h.0, h.1)
+  derived (Has.local d f) = let h = derived d in (d_let h.0 (derived f).0, h.1)
   derived (Has.cumulative d f l) = let h = derived d in (d_cum h.0 (derived f).0 l, h.1)
 
 variable_judged : {e : List Constant} {g : List Term} {i : ℕ} {a : Term} → HasLocal g i a → Valid e g → Has e g (Var i) a
@@ -78,6 +79,7 @@ judged (d_sigma d f) v = let h = judged d v in Has.sigma h (judged f (Valid.grow
 judged (d_pair d r m n) v = Has.pair (judged m v) (judged n v) (judged r (Valid.grow_variable (judged d v)))
 judged (d_fst d) v = Has.first (judged d v)
 judged (d_snd d) v = Has.second (judged d v)
+judged (d_let d f) v = Has.local (judged d v) (judged f v)
 judged (d_cum d f l) v = Has.cumulative (judged d v) (judged f v) l
 
 pub valid_types : (e : List Constant) → ValidTypes e → Valid e []

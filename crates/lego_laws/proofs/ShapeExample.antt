@@ -1,32 +1,16 @@
 -- A core has its shape: over `A : Prop` the constant A, where a type is wanted.
-use Rattle.std.proofs.Common.{◌≡◌, ℕ, false, List, [], Some, refl, ap, sym, subst}
-use Rattle.std.proofs.lemmas.Bool.{false≢true}
+use Rattle.std.proofs.Common.{◌≡◌, ℕ, List, [], Some, refl, ap, sym, subst}
 use Rattle.lego_term.specs.Trees.{Core, Const, Prop}
 use Rattle.lego_laws.specs.Entries.{Entry, entry_of}
-use Rattle.lego_laws.specs.RuleTypes.{RuleType, IsFresh}
-use Rattle.lego_laws.specs.Places.{Want, AType, Stated, Site, Part, Task, Stands, Fulfils, IsFulfilled, HasShape}
+use Rattle.lego_laws.specs.RuleTypes.{RuleType}
+use Rattle.lego_laws.specs.Places.{Want, AType, Stated, BeAType, OfWrittenType, Site, Part, Within, Task, Fulfils, IsFulfilled, HasShape}
 use Rattle.lego_laws.specs.Examples.{a_core, ConstantHasItsShape}
 
-fresh : IsFresh (λ i. i) a_core [] (Const 0)
-fresh = record { new = λ i h. false≢true h; differ = λ i j e. e }
-
 abbrev task : Task
-task = record {
-  entries = a_core;
-  held = [];
-  site = record { types = []; binders = []; first = 0 };
-  core = Const 0;
-  want = AType;
-  is_written = false;
-  adds = false;
-  variables = λ i. i;
-  fresh = fresh;
-  apart = λ i h. false≢true h;
-  starts = refl;
-}
+task = record { entries = a_core; site = record { types = []; binders = []; first = 0 }; core = Const 0; aim = BeAType }
 
 -- a constant has no parts
-no_part : {es : List Entry} {v : ℕ → ℕ} {s s' : Site} {m n : Core} {w : Want} {i k : ℕ} → Part es v s m i s' n w → m ≡ Const k → ⊥
+pub no_part : {es : List Entry} {s s' : Site} {m n : Core} {w w' : Want} {i k : ℕ} → Part es s m w i s' n w' → m ≡ Const k → ⊥
 no_part Part.pi_domain e = cc
 no_part Part.pi_body e = cc
 no_part Part.lam_domain e = cc
@@ -41,11 +25,12 @@ no_part Part.pair_first e = cc
 no_part Part.pair_second e = cc
 no_part Part.fst_operand e = cc
 no_part Part.snd_operand e = cc
+no_part Part.local_value e = cc
+no_part Part.local_body e = cc
 
-only_root : {s : Site} {n : Core} {w : Want} → Stands task s n w → (n ≡ Const 0) × (w ≡ AType)
-only_root Stands.root = (refl, refl)
-only_root (Stands.written e f) = absurd (false≢true e)
-only_root (Stands.inside st p) = absurd (no_part p (only_root st).0)
+only_root : {s : Site} {n : Core} {w : Want} → Within a_core task.site task.core AType s n w → (n ≡ Const 0) × (w ≡ AType)
+only_root Within.itself = (refl, refl)
+only_root (Within.part h p) = absurd (no_part p (only_root h).0)
 
 is_fulfilled : (w : Want) (got : Core) → w ≡ AType → got ≡ Prop → IsFulfilled a_core w got
 is_fulfilled w got e f =
@@ -72,16 +57,23 @@ rule_of_a RuleType.sigma e = cc
 rule_of_a (RuleType.lambda r) e = cc
 rule_of_a (RuleType.application r h) e = cc
 rule_of_a RuleType.pair e = cc
+rule_of_a (RuleType.local r) e = cc
 rule_of_a (RuleType.first r h) e = cc
 rule_of_a (RuleType.second r h) e = cc
 
 not_stated : {a : Core} → Stated a ≡ AType → ⊥
 not_stated e = cc
 
+not_written : {a : Core} → BeAType ≡ OfWrittenType a → ⊥
+not_written e = cc
+
 shape : HasShape task
 shape = record {
-  heads = λ {s} {n} {w} {got} h. is_fulfilled w got (only_root h.stands).1 (rule_of_a h.rule (only_root h.stands).0);
-  pairs = λ {s} {n} {have} {stated} p. absurd (not_stated (only_root p.stands).1);
+  core = record {
+    heads = λ {s'} {n'} {got} {w'} h k r. is_fulfilled w' got (only_root h).1 (rule_of_a r (only_root h).0);
+    pairs = λ h r. absurd (not_stated (only_root h).1);
+  };
+  written = λ a e. absurd (not_written e);
 }
 
 pub constant_has_its_shape : ConstantHasItsShape

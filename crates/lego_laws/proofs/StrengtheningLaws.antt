@@ -7,7 +7,7 @@ use Rattle.lego_laws.specs.Entries.{Constant, constant_of, bodies_of}
 use Rattle.lego_laws.specs.Judgement.{Valid, Has}
 use Rattle.lego_laws.specs.Valid.{AreValid}
 use Rattle.lego_laws.specs.Derivations.{types_of, Derives, ValidLocals, v_none, v_local}
-use Rattle.lego_laws.specs.Strengthening.{Mentions, EntryMentions, Drops, nothing, keeps, drops, DroppedListsAreValid, Strengthening}
+use Rattle.lego_laws.specs.Strengthening.{MentionsOnly, EntryMentions, Drops, nothing, keeps, drops, DroppedListsAreValid, Strengthening}
 use Rattle.lego_laws.proofs.Rules.{known, derived, judged, valid_locals, type_from}
 use Rattle.lego_laws.proofs.Entries.{types_closed, bodies_closed, body_from, found}
 use Rattle.lego_laws.proofs.TypingLaws.{constants_valid}
@@ -35,39 +35,39 @@ module _ (p : ℕ → Bool) where
   kept_mentions (drops {e = x} {es = es} q d) k h y e =
       kept_mentions d k h y (sym (ap (λ o. cond o (Some x) (constant_of es k)) (other x.number k q h (nat_eq x.number k) refl)) ∙ e)
 
-  body_mentions : (o : Option Term) (t : Term) → o ≡ Some t → IfSome o (λ m. Mentions p m) → Mentions p t
+  body_mentions : (o : Option Term) (t : Term) → o ≡ Some t → IfSome o (λ m. MentionsOnly p m) → MentionsOnly p t
   body_mentions None t e h = cc
-  body_mentions (Some m) t e h = let is : m ≡ t = cc in subst (Mentions p) is h
+  body_mentions (Some m) t e h = let is : m ≡ t = cc in subst (MentionsOnly p) is h
 
   restricts : {es es' : List Constant} → Drops p es es' → Restricts p (types_of es) (bodies_of es) (types_of es') (bodies_of es')
   restricts {es} d =
       record {
         types_same = λ k h. ap (option_map (λ (e : Constant). e.ty)) (same_found d k h);
         bodies_same = λ k h. ap (option_and_then (λ (e : Constant). e.body)) (same_found d k h);
-        types_kept = λ k a h q. let y = type_from (constant_of es k) a q in subst (Mentions p) y.2 (kept_mentions d k h y.0 y.1).0;
+        types_kept = λ k a h q. let y = type_from (constant_of es k) a q in subst (MentionsOnly p) y.2 (kept_mentions d k h y.0 y.1).0;
         bodies_kept = λ k t h q. let y = body_from (constant_of es k) t q in body_mentions y.0.body t y.2 (kept_mentions d k h y.0 y.1).1;
       }
 
   module _ (es es' : List Constant) (x : AreValid es) (x' : AreValid es') (d : Drops p es es') where
-    kept_derives : (g : List Term) → ValidLocals (types_of es) (bodies_of es) g → ValidLocals (types_of es') (bodies_of es') g → AllByRecursion (λ t. Mentions p t) g → (m a : Term) → Mentions p m → Mentions p a → Derives (types_of es) (bodies_of es) g m a → Derives (types_of es') (bodies_of es') g m a
+    kept_derives : (g : List Term) → ValidLocals (types_of es) (bodies_of es) g → ValidLocals (types_of es') (bodies_of es') g → AllByRecursion (λ t. MentionsOnly p t) g → (m a : Term) → MentionsOnly p m → MentionsOnly p a → Derives (types_of es) (bodies_of es) g m a → Derives (types_of es') (bodies_of es') g m a
     kept_derives =
         let v = constants_valid es x in
         let v' = constants_valid es' x' in
         strengthened p (types_of es) (bodies_of es) (types_of es') (bodies_of es') (types_closed v) (bodies_closed v) (types_closed v') (bodies_closed v') (restricts d) v v'
 
-    kept_locals : {g : List Term} → ValidLocals (types_of es) (bodies_of es) g → AllByRecursion (λ t. Mentions p t) g → ValidLocals (types_of es') (bodies_of es') g
+    kept_locals : {g : List Term} → ValidLocals (types_of es) (bodies_of es) g → AllByRecursion (λ t. MentionsOnly p t) g → ValidLocals (types_of es') (bodies_of es') g
     kept_locals v_none h = v_none
     kept_locals (v_local {g = g} {a = a} {j = j} v q) h =
         let w = kept_locals v h.1 in
         v_local w (kept_derives g v w h.1 a (Univ j) h.0 tt q)
 
-    pub kept_judgement : (g : List Term) (m a : Term) → AllByRecursion (λ t. Mentions p t) g → Mentions p m → Mentions p a → Has es g m a → Has es' g m a
+    pub kept_judgement : (g : List Term) (m a : Term) → AllByRecursion (λ t. MentionsOnly p t) g → MentionsOnly p m → MentionsOnly p a → Has es g m a → Has es' g m a
     kept_judgement g m a hg hm ha q =
         let k = derived q in
         let w = kept_locals k.1.locals hg in
         judged (kept_derives g k.1.locals w hg m a hm ha k.0) (valid_locals x'.valid w)
 
-  kept_body : (es es' : List Constant) (x : AreValid es) (x' : AreValid es') (d : Drops p es es') (o : Option Term) (a : Term) → Mentions p a → IfSome o (λ m. Mentions p m) → IfSome o (λ m. Has es [] m a) → IfSome o (λ m. Has es' [] m a)
+  kept_body : (es es' : List Constant) (x : AreValid es) (x' : AreValid es') (d : Drops p es es') (o : Option Term) (a : Term) → MentionsOnly p a → IfSome o (λ m. MentionsOnly p m) → IfSome o (λ m. Has es [] m a) → IfSome o (λ m. Has es' [] m a)
   kept_body es es' x x' d None a ha hm h = tt
   kept_body es es' x x' d (Some m) a ha hm h = kept_judgement es es' x x' d [] m a tt hm ha h
 

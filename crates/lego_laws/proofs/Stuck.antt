@@ -2,7 +2,7 @@
 use Rattle.std.proofs.Common.{◌≡◌, Option, Some, None, refl, ap, option_map}
 use Rattle.lego_term.specs.Trees.{Tree, Lam, App, Pair, Fst, Snd, Bodies}
 use Rattle.lego_term.specs.Sequences.{head_step}
-use Rattle.lego_laws.specs.Parallel.{ParallelStep, p_var, p_const, p_prop, p_univ, p_pi, p_lam, p_app, p_sigma, p_pair, p_fst, p_snd, p_beta, p_first, p_second, p_unfold}
+use Rattle.lego_laws.specs.Parallel.{ParallelStep, p_var, p_const, p_prop, p_univ, p_pi, p_lam, p_app, p_sigma, p_pair, p_fst, p_snd, p_let, p_local, p_beta, p_first, p_second, p_unfold}
 use Rattle.lego_laws.specs.HeadForms.{IsHeadForm}
 
 -- what stands at the function of a head form, and at the operand of a projection
@@ -60,6 +60,8 @@ kept {b = b} (p_app {k = x} {m = m} {m' = m'} {n = n} {n' = n'} p q) e =
     let k = kept p h.0 in
     record { stays = app_stands b x m' n' k.stays (k.no_lam h.1); no_lam = λ h. h; no_pair = λ h. h }
 kept (p_sigma p q) e = record { stays = refl; no_lam = λ h. h; no_pair = λ h. h }
+kept (p_let p q) e = cc
+kept (p_local p q) e = cc
 kept (p_pair p q r s) e = record { stays = refl; no_lam = λ h. h; no_pair = λ h. h }
 kept {b = b} (p_fst {m = m} {m' = m'} p) e =
     let h = fst_stuck b m e in

@@ -1,7 +1,7 @@
 -- Renamings and simultaneous substitutions, of which lifting and substitution are instances.
 use Rattle.std.proofs.Common.{◌≡◌, ℕ, zero, suc, ◌+◌, ◌<◌, pred, nat_lt, if◌then◌else◌, refl, sym, ap, ap₂, ◌∙◌, arith}
 use mathlib.Core.Path.{fun_ext}
-use Rattle.lego_term.specs.Trees.{Tree, Var, Const, Prop, Univ, Pi, Lam, App, Sigma, Pair, Fst, Snd, loose, lift, put, put_var, instantiate}
+use Rattle.lego_term.specs.Trees.{Tree, Var, Const, Prop, Univ, Pi, Lam, App, Sigma, Pair, Fst, Snd, loose, map_leaves, lift, put, put_var, instantiate, Let}
 
 -- a renaming under a binder
 abbrev pub up_ren : (ℕ → ℕ) → ℕ → ℕ
@@ -9,17 +9,7 @@ up_ren f zero = zero
 up_ren f (suc n) = suc (f n)
 
 abbrev pub rename : {B M L : Type 0} → (ℕ → ℕ) → Tree B M L → Tree B M L
-rename f (Var i) = Var (f i)
-rename f (Const k) = Const k
-rename f Prop = Prop
-rename f (Univ l) = Univ l
-rename f (Pi x a b) = Pi x (rename f a) (rename (up_ren f) b)
-rename f (Lam x a m) = Lam x (rename f a) (rename (up_ren f) m)
-rename f (App k m n) = App k (rename f m) (rename f n)
-rename f (Sigma x a b) = Sigma x (rename f a) (rename (up_ren f) b)
-rename f (Pair x a b m n) = Pair x (rename f a) (rename (up_ren f) b) (rename f m) (rename f n)
-rename f (Fst m) = Fst (rename f m)
-rename f (Snd m) = Snd (rename f m)
+rename = map_leaves up_ren (λ f i. Var (f i)) (λ f k. Const k)
 
 -- a substitution under a binder
 abbrev pub up : {B M L : Type 0} → (ℕ → Tree B M L) → ℕ → Tree B M L
@@ -27,17 +17,7 @@ up s zero = Var zero
 up s (suc n) = rename suc (s n)
 
 abbrev pub substitute : {B M L : Type 0} → (ℕ → Tree B M L) → Tree B M L → Tree B M L
-substitute s (Var i) = s i
-substitute s (Const k) = Const k
-substitute s Prop = Prop
-substitute s (Univ l) = Univ l
-substitute s (Pi x a b) = Pi x (substitute s a) (substitute (up s) b)
-substitute s (Lam x a m) = Lam x (substitute s a) (substitute (up s) m)
-substitute s (App k m n) = App k (substitute s m) (substitute s n)
-substitute s (Sigma x a b) = Sigma x (substitute s a) (substitute (up s) b)
-substitute s (Pair x a b m n) = Pair x (substitute s a) (substitute (up s) b) (substitute s m) (substitute s n)
-substitute s (Fst m) = Fst (substitute s m)
-substitute s (Snd m) = Snd (substitute s m)
+substitute = map_leaves up (λ s i. s i) (λ s k. Const k)
 
 -- the lemmas by cases; each case of a binder wants the lemma on `up`
 pub up-up_ren : {B M L : Type 0} → (s : ℕ → Tree B M L) (f : ℕ → ℕ) → (λ i. up s (up_ren f i)) ≡ up (λ i. s (f i))
@@ -51,6 +31,7 @@ substitute-rename s f (Univ l) = refl
 substitute-rename s f (Pi x a b) = cc (substitute-rename s f a, substitute-rename (up s) (up_ren f) b, up-up_ren s f)
 substitute-rename s f (Lam x a m) = cc (substitute-rename s f a, substitute-rename (up s) (up_ren f) m, up-up_ren s f)
 substitute-rename s f (Sigma x a b) = cc (substitute-rename s f a, substitute-rename (up s) (up_ren f) b, up-up_ren s f)
+substitute-rename s f (Let x a b) = cc (substitute-rename s f a, substitute-rename (up s) (up_ren f) b, up-up_ren s f)
 substitute-rename s f (App k m n) = cc (substitute-rename s f m, substitute-rename s f n)
 substitute-rename s f (Pair x a b m n) = cc (substitute-rename s f a, substitute-rename (up s) (up_ren f) b, substitute-rename s f m, substitute-rename s f n, up-up_ren s f)
 substitute-rename s f (Fst m) = ap Fst (substitute-rename s f m)
@@ -67,6 +48,7 @@ rename_is f (Univ l) = refl
 rename_is f (Pi x a b) = cc (rename_is f a, rename_is (up_ren f) b, up_var f)
 rename_is f (Lam x a m) = cc (rename_is f a, rename_is (up_ren f) m, up_var f)
 rename_is f (Sigma x a b) = cc (rename_is f a, rename_is (up_ren f) b, up_var f)
+rename_is f (Let x a b) = cc (rename_is f a, rename_is (up_ren f) b, up_var f)
 rename_is f (App k m n) = cc (rename_is f m, rename_is f n)
 rename_is f (Pair x a b m n) = cc (rename_is f a, rename_is (up_ren f) b, rename_is f m, rename_is f n, up_var f)
 rename_is f (Fst m) = ap Fst (rename_is f m)
@@ -87,6 +69,7 @@ rename-substitute f s (Univ l) = refl
 rename-substitute f s (Pi x a b) = cc (rename-substitute f s a, rename-substitute (up_ren f) (up s) b, up_ren-up f s)
 rename-substitute f s (Lam x a m) = cc (rename-substitute f s a, rename-substitute (up_ren f) (up s) m, up_ren-up f s)
 rename-substitute f s (Sigma x a b) = cc (rename-substitute f s a, rename-substitute (up_ren f) (up s) b, up_ren-up f s)
+rename-substitute f s (Let x a b) = cc (rename-substitute f s a, rename-substitute (up_ren f) (up s) b, up_ren-up f s)
 rename-substitute f s (App k m n) = cc (rename-substitute f s m, rename-substitute f s n)
 rename-substitute f s (Pair x a b m n) = cc (rename-substitute f s a, rename-substitute (up_ren f) (up s) b, rename-substitute f s m, rename-substitute f s n, up_ren-up f s)
 rename-substitute f s (Fst m) = ap Fst (rename-substitute f s m)
@@ -103,6 +86,7 @@ substitute-substitute r s (Univ l) = refl
 substitute-substitute r s (Pi x a b) = cc (substitute-substitute r s a, substitute-substitute (up r) (up s) b, up-up r s)
 substitute-substitute r s (Lam x a m) = cc (substitute-substitute r s a, substitute-substitute (up r) (up s) m, up-up r s)
 substitute-substitute r s (Sigma x a b) = cc (substitute-substitute r s a, substitute-substitute (up r) (up s) b, up-up r s)
+substitute-substitute r s (Let x a b) = cc (substitute-substitute r s a, substitute-substitute (up r) (up s) b, up-up r s)
 substitute-substitute r s (App k m n) = cc (substitute-substitute r s m, substitute-substitute r s n)
 substitute-substitute r s (Pair x a b m n) = cc (substitute-substitute r s a, substitute-substitute (up r) (up s) b, substitute-substitute r s m, substitute-substitute r s n, up-up r s)
 substitute-substitute r s (Fst m) = ap Fst (substitute-substitute r s m)
@@ -121,6 +105,7 @@ substitute_fixes s (Univ l) h = refl
 substitute_fixes s (Pi x a b) h = ap₂ (Pi x) (substitute_fixes s a (λ i l. h i (omega arith))) (substitute_fixes (up s) b (up_fixes s (loose b) (λ i l. h i (omega arith))))
 substitute_fixes s (Lam x a b) h = ap₂ (Lam x) (substitute_fixes s a (λ i l. h i (omega arith))) (substitute_fixes (up s) b (up_fixes s (loose b) (λ i l. h i (omega arith))))
 substitute_fixes s (Sigma x a b) h = ap₂ (Sigma x) (substitute_fixes s a (λ i l. h i (omega arith))) (substitute_fixes (up s) b (up_fixes s (loose b) (λ i l. h i (omega arith))))
+substitute_fixes s (Let x a b) h = ap₂ (Let x) (substitute_fixes s a (λ i l. h i (omega arith))) (substitute_fixes (up s) b (up_fixes s (loose b) (λ i l. h i (omega arith))))
 substitute_fixes s (App k m n) h = ap₂ (App k) (substitute_fixes s m (λ i l. h i (omega arith))) (substitute_fixes s n (λ i l. h i (omega arith)))
 substitute_fixes s (Pair x a b m n) h =
     let ea = substitute_fixes s a (λ i l. h i (omega arith)) in
@@ -154,6 +139,7 @@ lift_is from by (Univ l) = refl
 lift_is from by (Pi x a b) = cc (lift_is from by a, lift_is (suc from) by b, up_raise from by)
 lift_is from by (Lam x a m) = cc (lift_is from by a, lift_is (suc from) by m, up_raise from by)
 lift_is from by (Sigma x a b) = cc (lift_is from by a, lift_is (suc from) by b, up_raise from by)
+lift_is from by (Let x a b) = cc (lift_is from by a, lift_is (suc from) by b, up_raise from by)
 lift_is from by (App k m n) = cc (lift_is from by m, lift_is from by n)
 lift_is from by (Pair x a b m n) = cc (lift_is from by a, lift_is (suc from) by b, lift_is from by m, lift_is from by n, up_raise from by)
 lift_is from by (Fst m) = ap Fst (lift_is from by m)
@@ -189,6 +175,7 @@ put_is depth v (Univ l) = refl
 put_is depth v (Pi x a b) = cc (put_is depth v a, put_is (suc depth) v b)
 put_is depth v (Lam x a m) = cc (put_is depth v a, put_is (suc depth) v m)
 put_is depth v (Sigma x a b) = cc (put_is depth v a, put_is (suc depth) v b)
+put_is depth v (Let x a b) = cc (put_is depth v a, put_is (suc depth) v b)
 put_is depth v (App k m n) = cc (put_is depth v m, put_is depth v n)
 put_is depth v (Pair x a b m n) = cc (put_is depth v a, put_is (suc depth) v b, put_is depth v m, put_is depth v n)
 put_is depth v (Fst m) = ap Fst (put_is depth v m)

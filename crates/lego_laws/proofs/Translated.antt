@@ -1,10 +1,10 @@
 -- A derivation where constants are replaced by closed terms.
 use Rattle.std.proofs.Common.{◌≡◌, ℕ, suc, ◌≤◌, Option, Some, None, List, [], map, unwrap_or, refl, sym, ap, ap₂, ◌∙◌, arith}
-use Rattle.lego_term.specs.Trees.{Term, Var, Const, Prop, Univ, Pi, Lam, App, Sigma, Pair, Fst, Snd, lift, put, put_var, instantiate, loose, replace_constants}
+use Rattle.lego_term.specs.Trees.{Term, Var, Const, Prop, Univ, Pi, Lam, App, Sigma, Pair, Fst, Snd, lift, put, put_var, instantiate, loose, replace_constants, Let}
 use Rattle.lego_term.specs.Steps.{Step, Contracts, Converts}
 use Rattle.lego_term.specs.Below.{Below}
 use Rattle.lego_laws.specs.Parallel.{TermBodies, AreClosed}
-use Rattle.lego_laws.specs.Derivations.{HasLocal, Derives, d_prop, d_univ, d_var, d_const, d_pi_prop, d_pi, d_lam, d_app, d_sigma, d_pair, d_fst, d_snd, d_cum, ValidLocals, v_none, v_local}
+use Rattle.lego_laws.specs.Derivations.{HasLocal, Derives, d_prop, d_univ, d_var, d_const, d_pi_prop, d_pi, d_lam, d_app, d_sigma, d_pair, d_fst, d_snd, d_let, d_cum, ValidLocals, v_none, v_local}
 use Rattle.lego_laws.specs.Translation.{standing}
 use Rattle.lego_laws.proofs.Subst.{lift_is, raise, put_is, one_at}
 use Rattle.lego_laws.proofs.Parallel.{closed_rename, closed_substitute}
@@ -39,6 +39,7 @@ module _ (s : TermBodies) (closed : (k : ℕ) → loose (standing s k) ≡ 0) wh
   replace_constants-lift from by (Pi tt a r) = ap₂ (Pi tt) (replace_constants-lift from by a) (replace_constants-lift (suc from) by r)
   replace_constants-lift from by (Lam tt a m) = ap₂ (Lam tt) (replace_constants-lift from by a) (replace_constants-lift (suc from) by m)
   replace_constants-lift from by (Sigma tt a r) = ap₂ (Sigma tt) (replace_constants-lift from by a) (replace_constants-lift (suc from) by r)
+  replace_constants-lift from by (Let tt a r) = ap₂ (Let tt) (replace_constants-lift from by a) (replace_constants-lift (suc from) by r)
   replace_constants-lift from by (App tt m n) = ap₂ (App tt) (replace_constants-lift from by m) (replace_constants-lift from by n)
   replace_constants-lift from by (Pair tt a r m n) = cc (replace_constants-lift from by a, replace_constants-lift (suc from) by r, replace_constants-lift from by m, replace_constants-lift from by n)
   replace_constants-lift from by (Fst m) = ap Fst (replace_constants-lift from by m)
@@ -55,6 +56,7 @@ module _ (s : TermBodies) (closed : (k : ℕ) → loose (standing s k) ≡ 0) wh
   replace_constants-put depth y (Pi tt a r) = ap₂ (Pi tt) (replace_constants-put depth y a) (replace_constants-put (suc depth) y r)
   replace_constants-put depth y (Lam tt a m) = ap₂ (Lam tt) (replace_constants-put depth y a) (replace_constants-put (suc depth) y m)
   replace_constants-put depth y (Sigma tt a r) = ap₂ (Sigma tt) (replace_constants-put depth y a) (replace_constants-put (suc depth) y r)
+  replace_constants-put depth y (Let tt a r) = ap₂ (Let tt) (replace_constants-put depth y a) (replace_constants-put (suc depth) y r)
   replace_constants-put depth y (App tt m n) = ap₂ (App tt) (replace_constants-put depth y m) (replace_constants-put depth y n)
   replace_constants-put depth y (Pair tt a r m n) = cc (replace_constants-put depth y a, replace_constants-put (suc depth) y r, replace_constants-put depth y m, replace_constants-put depth y n)
   replace_constants-put depth y (Fst m) = ap Fst (replace_constants-put depth y m)
@@ -69,6 +71,7 @@ module _ (s c b c' b' : TermBodies) (tc : AreClosed c) (bc : AreClosed b) (tc' :
   t-step (Step.here (Contracts.beta {m = m} {n = n})) = rw (replace_constants-instantiate s (standing_closed s x.closed) m n) (Converts.step (Step.here Contracts.beta))
   t-step (Step.here Contracts.first) = Converts.step (Step.here Contracts.first)
   t-step (Step.here Contracts.second) = Converts.step (Step.here Contracts.second)
+  t-step (Step.here (Contracts.local {m = m} {n = n})) = rw (replace_constants-instantiate s (standing_closed s x.closed) n m) (Converts.step (Step.here Contracts.local))
   t-step (Step.here (Contracts.unfolds {k = k} {m = t} e)) = x.converts k t e
   t-step (Step.pi_domain {b = y} p) = convert_map (λ z. Pi tt z (replace_constants s y)) (λ _ _ q. Step.pi_domain q) (t-step p)
   t-step (Step.pi_body {a = y} p) = convert_map (Pi tt (replace_constants s y)) (λ _ _ q. Step.pi_body q) (t-step p)
@@ -77,7 +80,9 @@ module _ (s c b c' b' : TermBodies) (tc : AreClosed c) (bc : AreClosed b) (tc' :
   t-step (Step.function {n = y} p) = convert_map (λ z. App tt z (replace_constants s y)) (λ _ _ q. Step.function q) (t-step p)
   t-step (Step.argument {m = y} p) = convert_map (App tt (replace_constants s y)) (λ _ _ q. Step.argument q) (t-step p)
   t-step (Step.sigma_domain {b = y} p) = convert_map (λ z. Sigma tt z (replace_constants s y)) (λ _ _ q. Step.sigma_domain q) (t-step p)
+  t-step (Step.local_value {n = y} p) = convert_map (λ z. Let tt z (replace_constants s y)) (λ _ _ q. Step.local_value q) (t-step p)
   t-step (Step.sigma_body {a = y} p) = convert_map (Sigma tt (replace_constants s y)) (λ _ _ q. Step.sigma_body q) (t-step p)
+  t-step (Step.local_body {m = y} p) = convert_map (Let tt (replace_constants s y)) (λ _ _ q. Step.local_body q) (t-step p)
   t-step (Step.pair_domain {b = w2} {m = w3} {n = w4} p) = convert_map (λ z. Pair tt z (replace_constants s w2) (replace_constants s w3) (replace_constants s w4)) (λ _ _ q. Step.pair_domain q) (t-step p)
   t-step (Step.pair_body {a = w1} {m = w3} {n = w4} p) = convert_map (λ z. Pair tt (replace_constants s w1) z (replace_constants s w3) (replace_constants s w4)) (λ _ _ q. Step.pair_body q) (t-step p)
   t-step (Step.pair_first {a = w1} {b = w2} {n = w4} p) = convert_map (λ z. Pair tt (replace_constants s w1) (replace_constants s w2) z (replace_constants s w4)) (λ _ _ q. Step.pair_first q) (t-step p)
@@ -116,6 +121,7 @@ module _ (s c b c' b' : TermBodies) (tc : AreClosed c) (bc : AreClosed b) (tc' :
   loose-replace_constants (Lam tt a m) = omega (arith, loose-replace_constants a, loose-replace_constants m)
   loose-replace_constants (App tt m n) = omega (arith, loose-replace_constants m, loose-replace_constants n)
   loose-replace_constants (Sigma tt a r) = omega (arith, loose-replace_constants a, loose-replace_constants r)
+  loose-replace_constants (Let tt a r) = omega (arith, loose-replace_constants a, loose-replace_constants r)
   loose-replace_constants (Pair tt a r m n) = omega (arith, loose-replace_constants a, loose-replace_constants r, loose-replace_constants m, loose-replace_constants n)
   loose-replace_constants (Fst m) = loose-replace_constants m
   loose-replace_constants (Snd m) = loose-replace_constants m
@@ -133,6 +139,7 @@ module _ (s c b c' b' : TermBodies) (tc : AreClosed c) (bc : AreClosed b) (tc' :
   t-derives (d_pair {r = r} {m = m} d e p q) = d_pair (t-derives d) (t-derives e) (t-derives p) (rw (← replace_constants-instantiate s (standing_closed s x.closed) r m) (t-derives q))
   t-derives (d_fst d) = d_fst (t-derives d)
   t-derives (d_snd {r = r} {m = m} d) = rw (replace_constants-instantiate s (standing_closed s x.closed) r (Fst m)) (d_snd (t-derives d))
+  t-derives (d_let {m = m} {n = n} d e) = d_let (t-derives d) (rw (← replace_constants-instantiate s (standing_closed s x.closed) n m) (t-derives e))
   t-derives (d_cum d e l) = d_cum (t-derives d) (t-derives e) (t-below l)
 
   pub t-locals : {g : List Term} → ValidLocals c b g → ValidLocals c' b' (map (replace_constants s) g)

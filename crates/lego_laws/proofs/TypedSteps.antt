@@ -1,10 +1,10 @@
 -- A parallel step keeps the type.
 use Rattle.std.proofs.Common.{◌≡◌, ℕ, Some, List}
 use Rattle.lego_term.specs.Trees.{Term, Univ, Pi, Lam, Sigma, Pair, Fst, instantiate}
-use Rattle.lego_laws.specs.Parallel.{TermBodies, AreClosed, ParallelStep, p_var, p_const, p_prop, p_univ, p_pi, p_lam, p_app, p_sigma, p_pair, p_fst, p_snd, p_beta, p_first, p_second, p_unfold}
+use Rattle.lego_laws.specs.Parallel.{TermBodies, AreClosed, ParallelStep, p_var, p_const, p_prop, p_univ, p_pi, p_lam, p_app, p_sigma, p_pair, p_fst, p_snd, p_beta, p_first, p_second, p_unfold, p_let, p_local}
 use Rattle.lego_term.specs.Steps.{Converts}
 use Rattle.lego_term.specs.Below.{Below}
-use Rattle.lego_laws.specs.Derivations.{Derives, d_prop, d_univ, d_var, d_const, d_pi_prop, d_pi, d_lam, d_app, d_sigma, d_pair, d_fst, d_snd, d_cum, ValidLocals, v_local, ValidConstants}
+use Rattle.lego_laws.specs.Derivations.{Derives, d_prop, d_univ, d_var, d_const, d_pi_prop, d_pi, d_lam, d_app, d_sigma, d_pair, d_fst, d_snd, d_let, d_cum, ValidLocals, v_local, ValidConstants}
 use Rattle.lego_laws.proofs.Subst.{one, instantiate_is}
 use Rattle.lego_laws.proofs.Parallel.{p_refl, p-instantiate}
 use Rattle.lego_laws.proofs.CommonReducts.{parallel-steps, convert_run}
@@ -79,4 +79,6 @@ module _ (c b : TermBodies) (types : AreClosed c) (bodies : AreClosed b) (valid 
       d_cum (d_snd (subject_reduction d p v)) (type_correct c b types bodies valid (d_snd d) v).1 (before (p-instantiate b bodies (p_refl b r) (p_fst p)))
   subject_reduction (d_snd d) (p_second {a = a₀} {c = r₀} {m = m} {n = n₀} p) v =
       second_case n₀ (subject_reduction d (p_pair (p_refl b a₀) (p_refl b r₀) (p_refl b m) p) v) (type_correct c b types bodies valid (d_snd d) v).1
+  subject_reduction (d_let d e) (p_let p q) v = d_let (subject_reduction d p v) (subject_reduction e (p-instantiate b bodies q p) v)
+  subject_reduction (d_let d e) (p_local p q) v = subject_reduction e (p-instantiate b bodies q p) v
   subject_reduction (d_cum d e l) p v = d_cum (subject_reduction d p v) e l

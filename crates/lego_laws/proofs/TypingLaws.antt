@@ -1,6 +1,6 @@
 -- The laws of derivations, for the thirteen rules.
 use Rattle.std.proofs.Common.{ℕ, Option, Some, None, List, [], ◌∷◌, inl, inr, sym, subst, IfSome}
-use Rattle.lego_term.specs.Trees.{Term, Var, Const, Prop, Univ, Pi, Lam, App, Sigma, Pair, Fst, Snd, lift, instantiate}
+use Rattle.lego_term.specs.Trees.{Term, Var, Const, Prop, Univ, Pi, Lam, App, Sigma, Pair, Fst, Snd, lift, instantiate, Let}
 use Rattle.lego_term.specs.Below.{Below}
 use Rattle.lego_laws.specs.Parallel.{ParallelStep, AreClosed}
 use Rattle.lego_laws.specs.Entries.{Constant, constant_of, bodies_of}
@@ -102,6 +102,7 @@ generates e g v (Pi x a r) t (j, d, inr (f, p)) = let s = judged d v in ((j, s),
 generates e g v (Lam x a m) t (j, r, d, f, p) = (r, judged f (Valid.grow_variable (judged d v)), p)
 generates e g v (App k m n) t (a, r, d, f, p) = (a, r, judged d v, judged f v, p)
 generates e g v (Sigma x a r) t (j, d, f, p) = let s = judged d v in (j, s, judged f (Valid.grow_variable s), p)
+generates e g v (Let x m n) t (a, q, d, f, p) = (a, q, judged d v, judged f v, p)
 generates e g v (Pair x a r m n) t (i, j, d, f, y, z, p) = ((j, judged f (Valid.grow_variable (judged d v))), judged y v, judged z v, p)
 generates e g v (Fst m) t (a, r, d, p) = (a, r, judged d v, p)
 generates e g v (Snd m) t (a, r, d, p) = (a, r, judged d v, p)

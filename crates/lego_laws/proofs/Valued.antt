@@ -2,12 +2,11 @@
 use Rattle.std.proofs.Common.{◌≡◌, ℕ, Option, Some, None, option_map, refl, sym, ap, ◌∙◌}
 use Rattle.lego_term.specs.declared.level.Level.{Level}
 use Rattle.lego_term.specs.Levels.{level_value}
-use Rattle.lego_term.specs.Trees.{Tree, Core, Var, Const, Prop, Univ, Pi, Lam, App, Sigma, Pair, Fst, Snd, loose, map_tree, Equal}
+use Rattle.lego_term.specs.Trees.{Tree, Core, Var, Const, Prop, Univ, Pi, Lam, App, Sigma, Pair, Fst, Snd, loose, map_tree, Equal, Let}
 use Rattle.lego_term.specs.Steps.{Converts}
 use Rattle.lego_term.specs.Sequences.{HeadForm}
-use Rattle.lego_laws.specs.Parallel.{AreClosed, CoreBodies}
+use Rattle.lego_laws.specs.Parallel.{AreClosed, CoreBodies, valued, bodies_valued}
 use Rattle.lego_laws.specs.HeadForms.{IsHeadForm}
-use Rattle.lego_laws.specs.Comparison.{valued, bodies_valued}
 use Rattle.lego_laws.specs.Confluence.{StepsKeepAtValues}
 use Rattle.lego_laws.proofs.CommonReducts.{convert_run}
 use Rattle.lego_laws.proofs.Mapping.{step-map, parallel-map, converts-map, head_step-map}
@@ -23,6 +22,7 @@ loose-map f g h (Pi x a b) = cc (loose-map f g h a, loose-map f g h b)
 loose-map f g h (Lam x a m) = cc (loose-map f g h a, loose-map f g h m)
 loose-map f g h (App k m n) = cc (loose-map f g h m, loose-map f g h n)
 loose-map f g h (Sigma x a b) = cc (loose-map f g h a, loose-map f g h b)
+loose-map f g h (Let x a b) = cc (loose-map f g h a, loose-map f g h b)
 loose-map f g h (Pair x a b m n) = cc (loose-map f g h a, loose-map f g h b, loose-map f g h m, loose-map f g h n)
 loose-map f g h (Fst m) = loose-map f g h m
 loose-map f g h (Snd m) = loose-map f g h m
@@ -46,6 +46,7 @@ map_twice f g h f' g' h' (Pi x a b) = cc (map_twice f g h f' g' h' a, map_twice 
 map_twice f g h f' g' h' (Lam x a m) = cc (map_twice f g h f' g' h' a, map_twice f g h f' g' h' m)
 map_twice f g h f' g' h' (App k m n) = cc (map_twice f g h f' g' h' m, map_twice f g h f' g' h' n)
 map_twice f g h f' g' h' (Sigma x a b) = cc (map_twice f g h f' g' h' a, map_twice f g h f' g' h' b)
+map_twice f g h f' g' h' (Let x a b) = cc (map_twice f g h f' g' h' a, map_twice f g h f' g' h' b)
 map_twice f g h f' g' h' (Pair x a b m n) = cc (map_twice f g h f' g' h' a, map_twice f g h f' g' h' b, map_twice f g h f' g' h' m, map_twice f g h f' g' h' n)
 map_twice f g h f' g' h' (Fst m) = ap Fst (map_twice f g h f' g' h' m)
 map_twice f g h f' g' h' (Snd m) = ap Snd (map_twice f g h f' g' h' m)

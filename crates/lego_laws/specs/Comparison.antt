@@ -1,22 +1,15 @@
 -- Core terms compared through their head forms, with the constraints that this gathers.
-use Rattle.std.specs.Prelude.{ℕ, ◌↔◌, List, [], ◌∷◌, ◌++◌, option_map}
+use Rattle.std.specs.Prelude.{ℕ, ◌+◌, ◌≤◌, ◌↔◌, List, [], ◌∷◌, ◌++◌}
 use Rattle.lego_term.specs.declared.binder.Binder.{Binder}
 use Rattle.lego_term.specs.declared.binder.Mark.{Mark}
 use Rattle.lego_term.specs.declared.level.Level.{Level}
 use Rattle.lego_term.specs.Levels.{Assignment, LevelPair, SatisfiesAll}
-use Rattle.lego_term.specs.Trees.{Core, Term, Var, Const, Prop, Univ, Pi, Lam, App, Sigma, Pair, Fst, Snd, Equal, map_tree, at}
+use Rattle.lego_term.specs.Trees.{Core, Term, Var, Const, Prop, Univ, Pi, Lam, App, Sigma, Pair, Fst, Snd, Equal, at, loose}
 use Rattle.lego_term.specs.Steps.{Converts}
 use Rattle.lego_term.specs.Below.{Below}
 use Rattle.lego_term.specs.Sequences.{HeadForm}
-use Rattle.lego_laws.specs.Parallel.{TermBodies, CoreBodies, AreClosed, bodies_at}
-use Rattle.lego_laws.specs.Facing.{Order, Cumulativity, Conversion, Faces, SameRoot}
-
--- the term, and the bodies, with a number for each level and without names and marks
-abbrev pub valued : (Level → ℕ) → Core → Term
-valued h = map_tree (λ x. tt) (λ k. tt) h
-
-abbrev pub bodies_valued : (Level → ℕ) → CoreBodies → TermBodies
-bodies_valued h b k = option_map (valued h) (b k)
+use Rattle.lego_laws.specs.Parallel.{TermBodies, CoreBodies, AreClosed, valued, bodies_valued, bodies_at}
+use Rattle.lego_laws.specs.Facing.{Order, Cumulativity, Conversion, Faces, order_under, SameRoot}
 
 -- whether the first is to be below the second, or to convert with it
 abbrev pub Related : Order → TermBodies → Term → Term → Type 0
@@ -29,11 +22,12 @@ asked Cumulativity l m = record { low = l; high = m } ∷ []
 asked Conversion l m = record { low = l; high = m } ∷ record { low = m; high = l } ∷ []
 
 mutual
-  -- the terms are equal, or their head forms are compared
+  -- The terms are equal, or their head forms are compared: so the pairs are those of one walk, which asks each pair of
+  -- facing universes once, and equal terms nothing.
   pub data Compared (b : CoreBodies) : Order → Core → Core → List LevelPair → Type 0 where
     m_equal : {o : Order} {t u : Core} → Equal t u → Compared b o t u []
     m_heads : {o : Order} {t t' u u' : Core} {k : List LevelPair}
-        → HeadForm b t t' → HeadForm b u u' → FormsCompared b o t' u' k → Compared b o t u k
+        → (Equal t u → ⊥) → HeadForm b t t' → HeadForm b u u' → FormsCompared b o t' u' k → Compared b o t u k
 
   -- the head forms have one root, or are two universes or `Prop` and a universe; their parts are compared
   pub data FormsCompared (b : CoreBodies) : Order → Core → Core → List LevelPair → Type 0 where
@@ -79,8 +73,15 @@ DifferenceExcludesConversion =
     (b : CoreBodies) → AreClosed b → (t u : Core) (o : Order) (n : ℕ) (h k : Core) → Faces b t u o n h k → (SameRoot h k → ⊥)
     → (value : Level → ℕ) → Converts (bodies_valued value b) (valued value t) (valued value u) → ⊥
 
--- what faces one another is related as the path's order says, whatever the levels are
+-- what faces one another is related as the path's order says, where the wholes are related so, whatever the levels are
 abbrev pub FacingPartsAreRelated : Type 0
 FacingPartsAreRelated =
     (b : CoreBodies) → AreClosed b → (t u : Core) (o : Order) (n : ℕ) (h k : Core) → Faces b t u o n h k
-    → (value : Level → ℕ) → Below (bodies_valued value b) (valued value t) (valued value u) → Related o (bodies_valued value b) (valued value h) (valued value k)
+    → (whole : Order) (value : Level → ℕ) → Related whole (bodies_valued value b) (valued value t) (valued value u)
+    → Related (order_under whole o) (bodies_valued value b) (valued value h) (valued value k)
+
+-- the loose variables of what faces one another are those of the wholes, and of the binders crossed
+abbrev pub FacingPartsAreScoped : Type 0
+FacingPartsAreScoped =
+    (b : CoreBodies) → AreClosed b → (t u : Core) (o : Order) (n : ℕ) (h k : Core) → Faces b t u o n h k
+    → (loose h ≤ loose t + n) × (loose k ≤ loose u + n)

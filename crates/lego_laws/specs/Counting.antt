@@ -1,6 +1,6 @@
 -- The steps of a walk through two terms are among those of their normalisation sequences.
 use Rattle.std.specs.Prelude.{◌≡◌, ℕ, ◌+◌, ◌≤◌, ◌<◌, Some, List, [], ◌∷◌}
-use Rattle.lego_term.specs.Trees.{Core}
+use Rattle.lego_term.specs.Trees.{Core, Equal}
 use Rattle.lego_term.specs.Parts.{Branch, parts_of}
 use Rattle.lego_term.specs.Sequences.{head_step, normal_step, after, Ends, CostMoreThan}
 use Rattle.lego_laws.specs.Parallel.{CoreBodies}
@@ -16,14 +16,14 @@ pub data PartsHaveSteps (b : CoreBodies) : List Branch → ℕ → Type 0 where
   and_then : (i : ℕ) {n : ℕ} {p : Branch} {ps : List Branch} → HasSteps b p.term i → PartsHaveSteps b ps n → PartsHaveSteps b (p ∷ ps) (i + n)
 
 mutual
-  -- a walk through the head forms of two terms and their parts, from the left on, which may stop anywhere, with the
-  -- numbers of head steps that it made on both sides
+  -- a walk through the head forms of two terms that aren't equal and then their parts in pairs, from the left on, which
+  -- may stop anywhere, with the numbers of head steps that it made on both sides
   pub data Walked (b : CoreBodies) : Core → Core → ℕ → ℕ → Type 0 where
     unvisited : {t u : Core} → Walked b t u 0 0
     on_the_way : {t t' u u' : Core} (i j : ℕ)
-        → after (head_step b) i t ≡ Some t' → after (head_step b) j u ≡ Some u' → Walked b t u i j
+        → (Equal t u → ⊥) → after (head_step b) i t ≡ Some t' → after (head_step b) j u ≡ Some u' → Walked b t u i j
     through_parts : {t t' u u' : Core} {i j m n : ℕ}
-        → Ends (head_step b) t i t' → Ends (head_step b) u j u' → PartsWalked b (parts_of t') (parts_of u') m n → Walked b t u (i + m) (j + n)
+        → (Equal t u → ⊥) → Ends (head_step b) t i t' → Ends (head_step b) u j u' → PartsWalked b (parts_of t') (parts_of u') m n → Walked b t u (i + m) (j + n)
 
   pub data PartsWalked (b : CoreBodies) : List Branch → List Branch → ℕ → ℕ → Type 0 where
     stopped : {ps qs : List Branch} → PartsWalked b ps qs 0 0

@@ -1,6 +1,6 @@
 -- Derivations over fixed constants: the thirteen rules without the validity of lists, a tool of proofs.
 use Rattle.std.specs.Prelude.{◌≡◌, ℕ, zero, suc, Some, option_map, List, [], ◌∷◌, ◌⊎◌}
-use Rattle.lego_term.specs.Trees.{Term, Var, Const, Prop, Univ, Pi, Lam, App, Sigma, Pair, Fst, Snd, instantiate, lift}
+use Rattle.lego_term.specs.Trees.{Term, Var, Const, Prop, Univ, Pi, Lam, App, Sigma, Pair, Fst, Snd, instantiate, lift, Let}
 use Rattle.lego_term.specs.Below.{Below}
 use Rattle.lego_laws.specs.Parallel.{TermBodies}
 use Rattle.lego_laws.specs.Entries.{Constant, constant_of}
@@ -34,6 +34,7 @@ pub data Derives (c b : TermBodies) : List Term → Term → Term → Type 0 whe
       → Derives c b g (Pair tt a r m n) (Sigma tt a r)
   d_fst : {g : List Term} {a r m : Term} → Derives c b g m (Sigma tt a r) → Derives c b g (Fst m) a
   d_snd : {g : List Term} {a r m : Term} → Derives c b g m (Sigma tt a r) → Derives c b g (Snd m) (instantiate r (Fst m))
+  d_let : {g : List Term} {a q m n : Term} → Derives c b g m a → Derives c b g (instantiate n m) q → Derives c b g (Let tt m n) q
   d_cum : {g : List Term} {m a a' : Term} {j : ℕ}
       → Derives c b g m a → Derives c b g a' (Univ j) → Below b a a' → Derives c b g m a'
 
@@ -66,3 +67,4 @@ Generated c b g (Pair x a r m n) t =
     × Below b (Sigma tt a r) t
 Generated c b g (Fst m) t = (a : Term) × (r : Term) × Derives c b g m (Sigma tt a r) × Below b a t
 Generated c b g (Snd m) t = (a : Term) × (r : Term) × Derives c b g m (Sigma tt a r) × Below b (instantiate r (Fst m)) t
+Generated c b g (Let x m n) t = (a : Term) × (q : Term) × Derives c b g m a × Derives c b g (instantiate n m) q × Below b q t

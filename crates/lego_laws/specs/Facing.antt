@@ -39,6 +39,20 @@ pub data Asks : Order → Level → Level → Level → Level → Type 0 where
   up : {o : Order} {l m : Level} → Asks o l m l m
   down : {l m : Level} → Asks Conversion l m m l
 
+-- where the whole is compared so, the order of the two sides at the end of a path that has this order
+abbrev pub order_under : Order → Order → Order
+order_under Cumulativity on_path = on_path
+order_under Conversion on_path = Conversion
+
+-- two universes that one path of parts reaches from both sides ask that low is at most high
+pub record IsAsked (o : Order) (bodies : Bodies Binder Mark Level) (a b : Core) (low high : Level) : Type 0 where
+  pub on_path : Order
+  pub deeper : ℕ
+  pub left : Level
+  pub right : Level
+  pub faces : Faces bodies a b on_path deeper (Univ left) (Univ right)
+  pub asks : Asks (order_under o on_path) left right low high
+
 -- two head forms have one root, or both are universes
 pub data SameRoot : Core → Core → Type 0 where
   variable : {i : ℕ} → SameRoot (Var i) (Var i)

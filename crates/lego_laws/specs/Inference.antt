@@ -5,12 +5,12 @@ use Rattle.lego_term.specs.declared.binder.Binder.{Binder}
 use Rattle.lego_term.specs.declared.binder.Mark.{Mark}
 use Rattle.lego_term.specs.declared.level.Level.{Level}
 use Rattle.lego_term.specs.Levels.{Assignment, fixed_level, variable_level, LevelPair, SatisfiesAll}
-use Rattle.lego_term.specs.Trees.{Core, Var, Const, Prop, Univ, Pi, Lam, App, Sigma, Pair, Fst, Snd, lift, instantiate, at}
+use Rattle.lego_term.specs.Trees.{Core, Var, Const, Prop, Univ, Pi, Lam, App, Sigma, Pair, Fst, Snd, lift, instantiate, at, Let}
 use Rattle.lego_term.specs.Below.{Below}
 use Rattle.lego_term.specs.Sequences.{HeadForm}
 use Rattle.lego_laws.specs.Parallel.{CoreBodies, bodies_at}
 use Rattle.lego_laws.specs.Derivations.{Derives}
-use Rattle.lego_laws.specs.Ranges.{level_bound, levels_bound, pairs_bound, Context, FitsBetween, FitsWantedBetween, sort_term, sort_at_most, raised_level}
+use Rattle.lego_laws.specs.Ranges.{level_bound, levels_bound, pairs_bound, Context, FitsBetween, FitsWantedBetween, FitsWrittenBetween, sort_term, sort_at_most, raised_level}
 
 abbrev pub FitsProp : Type 0
 FitsProp =
@@ -102,6 +102,13 @@ FitsSecond =
     → (x : Binder) (m f a r : Core) (k : List LevelPair) → levels_bound m ≤ n₀
     → FitsBetween n₀ n₁ c b held g m f k → HeadForm b f (Sigma x a r) → FitsBetween n₀ n₁ c b held g (Snd m) (instantiate r (Fst m)) k
 
+-- a local definition: its value fits, and the body with the value put in; the type is the body's
+abbrev pub FitsLocal : Type 0
+FitsLocal =
+    (n₀ n₁ n₂ : ℕ) (c b : CoreBodies) (held : List LevelPair) (g : List Core) → Context n₀ c b held g
+    → (x : Binder) (m f n q : Core) (k₁ k₂ : List LevelPair) → levels_bound m ≤ n₀ → levels_bound n ≤ n₀
+    → FitsBetween n₀ n₁ c b held g m f k₁ → FitsBetween n₁ n₂ c b held g (instantiate n m) q k₂ → FitsBetween n₀ n₂ c b held g (Let x m n) q (k₁ ++ k₂)
+
 -- a wanted type a; k' says that the term's own type is below it
 abbrev pub FitsAgainst : Type 0
 FitsAgainst =
@@ -110,6 +117,15 @@ FitsAgainst =
     → ((v : Assignment) → SatisfiesAll v held → (j : ℕ) × Derives (bodies_at v c) (bodies_at v b) (map (at v) g) (at v a) (Univ j))
     → ((v : Assignment) → SatisfiesAll v k' ↔ Below (bodies_at v b) (at v f) (at v a))
     → FitsWantedBetween n₀ n₁ c b held g m a (k ++ k')
+
+-- a written type a; k₂ fits a's own type, whose head form is a sort, and k₃ says that the term's own type is below a
+abbrev pub FitsAgainstWritten : Type 0
+FitsAgainstWritten =
+    (n₀ n₁ n₂ : ℕ) (c b : CoreBodies) (held : List LevelPair) (g : List Core) → Context n₀ c b held g
+    → (m f a ta : Core) (k₁ k₂ k₃ : List LevelPair) → levels_bound a ≤ n₀
+    → FitsBetween n₀ n₁ c b held g m f k₁ → FitsBetween n₁ n₂ c b held g a ta k₂ → (s : Option Level) → HeadForm b ta (sort_term s) → pairs_bound k₃ ≤ n₂
+    → ((v : Assignment) → SatisfiesAll v k₃ ↔ Below (bodies_at v b) (at v f) (at v a))
+    → FitsWrittenBetween n₀ n₂ c b held g m a (k₁ ++ (k₂ ++ k₃))
 
 -- other constraints with the same solutions fit too
 abbrev pub FitsByOthers : Type 0

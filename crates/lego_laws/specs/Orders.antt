@@ -6,7 +6,7 @@ use Rattle.lego_laws.specs.Parallel.{TermBodies}
 use Rattle.lego_laws.specs.Entries.{Constant, constant_of}
 use Rattle.lego_laws.specs.Judgement.{Has}
 use Rattle.lego_laws.specs.Valid.{AreValid}
-use Rattle.lego_laws.specs.Strengthening.{Mentions, EntryMentions}
+use Rattle.lego_laws.specs.Strengthening.{MentionsOnly, EntryMentions}
 
 -- whether the list has the constant
 abbrev pub found_in : Option Constant → Bool
@@ -33,7 +33,7 @@ Reordering = (es es' : List Constant) → AreValid es → AreAmong es' es → Me
 abbrev pub ReorderedJudgements : Type 0
 ReorderedJudgements =
     (es es' : List Constant) → AreValid es → AreAmong es' es → MentionEarlier es' → (g : List Term) (m a : Term)
-    → AllByRecursion (λ t. Mentions (has_constant es') t) g → Mentions (has_constant es') m → Mentions (has_constant es') a
+    → AllByRecursion (λ t. MentionsOnly (has_constant es') t) g → MentionsOnly (has_constant es') m → MentionsOnly (has_constant es') a
     → Has es g m a → Has es' g m a
 
 -- what the constants that are to be put in are replaced by: their bodies, with earlier such constants put in
@@ -68,3 +68,15 @@ JudgementsFill =
 -- the constants before any are valid
 abbrev pub PrefixesAreValid : Type 0
 PrefixesAreValid = (later es : List Constant) → AreValid (later ++ es) → AreValid es
+
+-- the constant with a body
+abbrev pub with_body : Constant → Term → Constant
+with_body e m = record { number = e.number; ty = e.ty; body = Some m }
+
+-- an assumption may be given a body that has its type over the constants before it: the list stays valid, and each judgement
+-- stands
+abbrev pub BodiesMayBeGiven : Type 0
+BodiesMayBeGiven =
+    (later before : List Constant) (e : Constant) (m : Term) → AreValid (later ++ (e ∷ before)) → e.body ≡ None → Has before [] m e.ty
+    → AreValid (later ++ (with_body e m ∷ before))
+    × ((g : List Term) (t a : Term) → Has (later ++ (e ∷ before)) g t a → Has (later ++ (with_body e m ∷ before)) g t a)

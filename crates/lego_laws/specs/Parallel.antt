@@ -1,10 +1,10 @@
 -- Parallel steps, and runs of steps.
 use Rattle.std.specs.Prelude.{◌≡◌, ℕ, Some, option_map}
-use Rattle.lego_term.specs.Levels.{Assignment}
+use Rattle.lego_term.specs.Levels.{Assignment, level_value}
 use Rattle.lego_term.specs.declared.binder.Binder.{Binder}
 use Rattle.lego_term.specs.declared.binder.Mark.{Mark}
 use Rattle.lego_term.specs.declared.level.Level.{Level}
-use Rattle.lego_term.specs.Trees.{Tree, Var, Const, Prop, Univ, Pi, Lam, App, Sigma, Pair, Fst, Snd, Bodies, instantiate, loose, at}
+use Rattle.lego_term.specs.Trees.{Tree, Var, Const, Prop, Univ, Pi, Lam, App, Sigma, Pair, Fst, Snd, Bodies, instantiate, loose, map_tree, Core, Term, Let}
 
 -- the bodies of the constants of terms at fixed numbers, and of core terms
 abbrev pub TermBodies : Type 0
@@ -13,9 +13,16 @@ TermBodies = Bodies (Unit {0}) (Unit {0}) ℕ
 abbrev pub CoreBodies : Type 0
 CoreBodies = Bodies Binder Mark Level
 
+-- the term, and the bodies, with a number for each level and without names and marks
+abbrev pub valued : (Level → ℕ) → Core → Term
+valued h = map_tree (λ x. tt) (λ k. tt) h
+
+abbrev pub bodies_valued : (Level → ℕ) → CoreBodies → TermBodies
+bodies_valued h b k = option_map (valued h) (b k)
+
 -- the bodies at an assignment
 abbrev pub bodies_at : Assignment → CoreBodies → TermBodies
-bodies_at v b k = option_map (at v) (b k)
+bodies_at v = bodies_valued (level_value v)
 
 -- no body has a loose variable
 abbrev pub AreClosed : {B M L : Type 0} → Bodies B M L → Type 0
@@ -35,10 +42,12 @@ pub data ParallelStep {B M L : Type 0} (b : Bodies B M L) : Tree B M L → Tree 
       → ParallelStep b a a' → ParallelStep b c c' → ParallelStep b m m' → ParallelStep b n n' → ParallelStep b (Pair x a c m n) (Pair x a' c' m' n')
   p_fst : {m m' : Tree B M L} → ParallelStep b m m' → ParallelStep b (Fst m) (Fst m')
   p_snd : {m m' : Tree B M L} → ParallelStep b m m' → ParallelStep b (Snd m) (Snd m')
+  p_let : {x : B} {m m' n n' : Tree B M L} → ParallelStep b m m' → ParallelStep b n n' → ParallelStep b (Let x m n) (Let x m' n')
   p_beta : {k : M} {x : B} {a m m' n n' : Tree B M L}
       → ParallelStep b m m' → ParallelStep b n n' → ParallelStep b (App k (Lam x a m) n) (instantiate m' n')
   p_first : {x : B} {a c m m' n : Tree B M L} → ParallelStep b m m' → ParallelStep b (Fst (Pair x a c m n)) m'
   p_second : {x : B} {a c m n n' : Tree B M L} → ParallelStep b n n' → ParallelStep b (Snd (Pair x a c m n)) n'
+  p_local : {x : B} {m m' n n' : Tree B M L} → ParallelStep b m m' → ParallelStep b n n' → ParallelStep b (Let x m n) (instantiate n' m')
   p_unfold : {k : ℕ} {t : Tree B M L} → b k ≡ Some t → ParallelStep b (Const k) t
 
 -- none, one or more, one after the other

@@ -2,7 +2,7 @@
 use Rattle.std.specs.Prelude.{◌≡◌, ℕ, suc, ◌≤◌, Option, Some, None, List, [], ◌∷◌, ◌⊎◌, max, map, get_or}
 use Rattle.lego_term.specs.declared.level.Level.{Level}
 use Rattle.lego_term.specs.Levels.{Assignment, LevelPair, SatisfiesAll}
-use Rattle.lego_term.specs.Trees.{Core, Term, Var, Const, Prop, Univ, Pi, Lam, App, Sigma, Pair, Fst, Snd, instantiate, at}
+use Rattle.lego_term.specs.Trees.{Core, Term, Var, Const, Prop, Univ, Pi, Lam, App, Sigma, Pair, Fst, Snd, instantiate, at, Let}
 use Rattle.lego_term.specs.Below.{Below}
 use Rattle.lego_laws.specs.Parallel.{TermBodies, CoreBodies, AreClosed, bodies_at}
 use Rattle.lego_laws.specs.Derivations.{HasLocal, Derives, ValidLocals, ValidConstants}
@@ -24,6 +24,7 @@ levels_bound (Pi x a r) = max (levels_bound a) (levels_bound r)
 levels_bound (Lam x a m) = max (levels_bound a) (levels_bound m)
 levels_bound (App k m n) = max (levels_bound m) (levels_bound n)
 levels_bound (Sigma x a r) = max (levels_bound a) (levels_bound r)
+levels_bound (Let x a r) = max (levels_bound a) (levels_bound r)
 levels_bound (Pair x a r m n) = max (max (levels_bound a) (levels_bound r)) (max (levels_bound m) (levels_bound n))
 levels_bound (Fst m) = levels_bound m
 levels_bound (Snd m) = levels_bound m
@@ -58,6 +59,7 @@ pub data Bounded (t : ℕ) (c b : TermBodies) : List Term → Term → Term → 
       → Bounded t c b g (Pair tt a r m n) (Sigma tt a r)
   b_fst : {g : List Term} {a r m : Term} → Bounded t c b g m (Sigma tt a r) → Bounded t c b g (Fst m) a
   b_snd : {g : List Term} {a r m : Term} → Bounded t c b g m (Sigma tt a r) → Bounded t c b g (Snd m) (instantiate r (Fst m))
+  b_let : {g : List Term} {a q m n : Term} → Bounded t c b g m a → Bounded t c b g (instantiate n m) q → Bounded t c b g (Let tt m n) q
   b_cum : {g : List Term} {m a a' : Term} → Bounded t c b g m a → Below b a a' → Bounded t c b g m a'
 
 -- what such a derivation says of the parts of its term, by the term's form
@@ -79,6 +81,7 @@ GeneratedUpTo t c b g (Pair x a r m n) q =
     × Bounded t c b g n (instantiate r m) × Below b (Sigma tt a r) q
 GeneratedUpTo t c b g (Fst m) q = (a : Term) × (r : Term) × Bounded t c b g m (Sigma tt a r) × Below b a q
 GeneratedUpTo t c b g (Snd m) q = (a : Term) × (r : Term) × Bounded t c b g m (Sigma tt a r) × Below b (instantiate r (Fst m)) q
+GeneratedUpTo t c b g (Let x m n) q = (a : Term) × (p : Term) × Bounded t c b g m a × Bounded t c b g (instantiate n m) p × Below b p q
 
 -- constants and locals over the level variables below n, valid wherever the held constraints are satisfied
 pub record Context (n : ℕ) (c b : CoreBodies) (held : List LevelPair) (g : List Core) : Type 0 where
@@ -115,6 +118,16 @@ pub record FitsWantedBetween (low high : ℕ) (c b : CoreBodies) (held : List Le
   pub sound : (v : Assignment) → SatisfiesAll v held → SatisfiesAll v k → Derives (bodies_at v c) (bodies_at v b) (map (at v) g) (at v m) (at v a)
   pub principal : (v : Assignment) → SatisfiesAll v held → (t : ℕ)
       → Bounded t (bodies_at v c) (bodies_at v b) (map (at v) g) (at v m) (at v a) → Solution low v b k a (at v a) t
+
+-- the same for a type a that is written with m, and is to be a type itself: from a bounded derivation of each
+pub record FitsWrittenBetween (low high : ℕ) (c b : CoreBodies) (held : List LevelPair) (g : List Core) (m a : Core) (k : List LevelPair) : Type 0 where
+  pub grows : low ≤ high
+  pub pairs_within : pairs_bound k ≤ high
+  pub sound : (v : Assignment) → SatisfiesAll v held → SatisfiesAll v k → Derives (bodies_at v c) (bodies_at v b) (map (at v) g) (at v m) (at v a)
+  pub is_type : (v : Assignment) → SatisfiesAll v held → SatisfiesAll v k → (j : ℕ) × Derives (bodies_at v c) (bodies_at v b) (map (at v) g) (at v a) (Univ j)
+  pub principal : (v : Assignment) → SatisfiesAll v held → (t j : ℕ)
+      → Bounded t (bodies_at v c) (bodies_at v b) (map (at v) g) (at v m) (at v a)
+      → Bounded t (bodies_at v c) (bodies_at v b) (map (at v) g) (at v a) (Univ j) → Solution low v b k a (at v a) t
 
 -- `Prop`, or a universe
 abbrev pub sort_term : Option Level → Core

@@ -14,17 +14,17 @@ BodyReduces b (Some m) (Some m') = Star (Step b) m m'
 BodyReduces b _ _ = ⊥
 
 -- the second list is the first with types and bodies to which steps lead
-pub data Reduces : List Constant → List Constant → Type 0 where
-  nothing : Reduces [] []
+pub data ReducesTo : List Constant → List Constant → Type 0 where
+  nothing : ReducesTo [] []
   reduced : {e e' : Constant} {es es' : List Constant}
       → e'.number ≡ e.number → Star (Step (bodies_of es')) e.ty e'.ty → BodyReduces (bodies_of es') e.body e'.body
-      → Reduces es es' → Reduces (e ∷ es) (e' ∷ es')
+      → ReducesTo es es' → ReducesTo (e ∷ es) (e' ∷ es')
 
 -- a valid list stays valid where types and bodies are reduced
 abbrev pub ReducedListsAreValid : Type 0
-ReducedListsAreValid = (es es' : List Constant) → AreValid es → Reduces es es' → AreValid es'
+ReducedListsAreValid = (es es' : List Constant) → AreValid es → ReducesTo es es' → AreValid es'
 
 -- and a judgement stands over it
 abbrev pub JudgementsOverReducedLists : Type 0
 JudgementsOverReducedLists =
-    (es es' : List Constant) → AreValid es → Reduces es es' → (g : List Term) (m a : Term) → Has es g m a → Has es' g m a
+    (es es' : List Constant) → AreValid es → ReducesTo es es' → (g : List Term) (m a : Term) → Has es g m a → Has es' g m a

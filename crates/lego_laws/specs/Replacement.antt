@@ -1,6 +1,6 @@
 -- Constants replaced by terms with variables of an outer list of locals.
 use Rattle.std.specs.Prelude.{◌≡◌, ℕ, Some, option_map, unwrap_or, List, [], ◌∷◌, IfSome}
-use Rattle.lego_term.specs.Trees.{Tree, Term, Var, Const, Prop, Univ, Pi, Lam, App, Sigma, Pair, Fst, Snd, lift, loose, listed_variable, close_over}
+use Rattle.lego_term.specs.Trees.{Tree, Term, Var, Const, lift, loose, listed_variable, close_over, map_leaves}
 use Rattle.lego_term.specs.Steps.{Converts}
 use Rattle.lego_laws.specs.Entries.{Constant, constant_of, bodies_of}
 use Rattle.lego_laws.specs.Judgement.{Valid, Has}
@@ -10,19 +10,9 @@ use Rattle.lego_laws.specs.Valid.{AreValid}
 abbrev pub raised : {B M L : Type 0} → (ℕ → Tree B M L) → ℕ → Tree B M L
 raised s k = lift 0 1 (s k)
 
--- the term with each constant replaced
+-- the term with each constant replaced by a term, which is raised under each binder
 abbrev pub replace : {B M L : Type 0} → (ℕ → Tree B M L) → Tree B M L → Tree B M L
-replace s (Var i) = Var i
-replace s (Const k) = s k
-replace s Prop = Prop
-replace s (Univ l) = Univ l
-replace s (Pi x a r) = Pi x (replace s a) (replace (raised s) r)
-replace s (Lam x a m) = Lam x (replace s a) (replace (raised s) m)
-replace s (App k m n) = App k (replace s m) (replace s n)
-replace s (Sigma x a r) = Sigma x (replace s a) (replace (raised s) r)
-replace s (Pair x a r m n) = Pair x (replace s a) (replace (raised s) r) (replace s m) (replace s n)
-replace s (Fst m) = Fst (replace s m)
-replace s (Snd m) = Snd (replace s m)
+replace = map_leaves raised (λ s i. Var i) (λ s k. s k)
 
 -- the replacing terms under a list of locals, and the locals replaced, in front of the outer ones
 abbrev pub under_locals : (ℕ → Term) → List Term → ℕ → Term

@@ -1,26 +1,21 @@
 -- The rule type of a term, which is read off its form and checks nothing.
-use Rattle.std.specs.Prelude.{◌≡◌, ℕ, suc, ◌+◌, List, [], ◌∷◌, Some, slice_get}
+use Rattle.std.specs.Prelude.{◌≡◌, ℕ, suc, ◌+◌, ◌≤◌, List, [], ◌∷◌, Some, slice_get}
 use Rattle.lego_term.specs.Levels.{fixed_level, variable_level}
 use Rattle.lego_term.specs.declared.level.Level.{Level}
-use Rattle.lego_term.specs.Trees.{Tree, Core, Var, Const, Prop, Univ, Pi, Lam, App, Sigma, Pair, Fst, Snd, lift, instantiate}
+use Rattle.lego_term.specs.Trees.{Tree, Core, Var, Const, Prop, Univ, Pi, Lam, App, Sigma, Pair, Fst, Snd, Let, lift, instantiate}
 use Rattle.lego_term.specs.declared.binder.Mark.{Mark}
 use Rattle.lego_term.specs.declared.binder.Binder.{Binder}
 use Rattle.lego_term.specs.Sequences.{HeadForm}
+use Rattle.lego_term.specs.Weight.{Counting, count_of}
 use Rattle.lego_laws.specs.Entries.{Entry, entry_of, core_bodies, IsHeld}
 
--- The number of universes, products and Sigma types in a term: its nodes, each of which may take a level variable of its own.
+-- The number of universes, products and Sigma types in a term, where those of `Let x m n` are those of m and of n with m
+-- put in: its nodes, each of which may take a level variable of its own.
+abbrev pub node_counting : Counting
+node_counting = record { leaf = 0; universe = 1; product = 1; node = 0; join = λ m n. m + n }
+
 abbrev pub nodes : {B M L : Type 0} → Tree B M L → ℕ
-nodes (Var i) = 0
-nodes (Const k) = 0
-nodes Prop = 0
-nodes (Univ l) = 1
-nodes (Pi x a b) = suc (nodes a + nodes b)
-nodes (Lam x a m) = nodes a + nodes m
-nodes (App k m n) = nodes m + nodes n
-nodes (Sigma x a b) = suc (nodes a + nodes b)
-nodes (Pair x a b m n) = nodes a + nodes b + nodes m + nodes n
-nodes (Fst m) = nodes m
-nodes (Snd m) = nodes m
+nodes = count_of node_counting
 
 -- A is the rule type of m over the entries and the local types, the innermost first. The nodes of m are numbered from n on,
 -- a node before its parts and these left to right, and node i takes the level variable w i.
@@ -44,18 +39,10 @@ pub data RuleType (es : List Entry) (w : ℕ → ℕ) : List Core → ℕ → Co
       → RuleType es w g n m t → HeadForm (core_bodies es) t (Sigma x a b) → RuleType es w g n (Fst m) a
   second : {g : List Core} {n : ℕ} {x : Binder} {a b m t : Core}
       → RuleType es w g n m t → HeadForm (core_bodies es) t (Sigma x a b) → RuleType es w g n (Snd m) (instantiate b (Fst m))
+  local : {g : List Core} {n : ℕ} {x : Binder} {m b t : Core}
+      → RuleType es w g (n + nodes m) (instantiate b m) t → RuleType es w g n (Let x m b) t
 
--- the variables of different nodes differ, and none is held
-pub record IsFresh (w : ℕ → ℕ) (es : List Entry) (g : List Core) (m : Core) : Type 0 where
-  pub new : (i : ℕ) → IsHeld (w i) es g (m ∷ []) → ⊥
-  pub differ : (i j : ℕ) → w i ≡ w j → i ≡ j
-
--- A is the rule type of m, for some fresh level variables
-pub record HasRuleType (es : List Entry) (g : List Core) (m a : Core) : Type 0 where
-  pub w : ℕ → ℕ
-  pub fresh : IsFresh w es g m
-  pub rule : RuleType es w g 0 m a
-
--- m has no rule type
-abbrev pub HasNoRuleType : List Entry → List Core → Core → Type 0
-HasNoRuleType es g m = (w : ℕ → ℕ) (a : Core) → RuleType es w g 0 m a → ⊥
+-- A is the rule type of m, whose nodes take the level variables from n on, and none of these is held
+pub record HasRuleType (n : ℕ) (es : List Entry) (g : List Core) (m a : Core) : Type 0 where
+  pub fresh : (u : ℕ) → n ≤ u → IsHeld u es g (m ∷ []) → ⊥
+  pub rule : RuleType es (λ i. i) g n m a

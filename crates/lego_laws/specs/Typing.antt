@@ -1,6 +1,6 @@
 -- The laws of the thirteen rules.
 use Rattle.std.specs.Prelude.{◌≡◌, ℕ, suc, Some, List, [], ◌∷◌, slice_get, ◌↔◌, ◌⊎◌}
-use Rattle.lego_term.specs.Trees.{Term, Var, Const, Prop, Univ, Pi, Lam, App, Sigma, Pair, Fst, Snd, lift, instantiate}
+use Rattle.lego_term.specs.Trees.{Term, Var, Const, Prop, Univ, Pi, Lam, App, Sigma, Pair, Fst, Snd, lift, instantiate, Let}
 use Rattle.lego_term.specs.Below.{Below}
 use Rattle.lego_laws.specs.Parallel.{ParallelStep}
 use Rattle.lego_laws.specs.Entries.{Constant, constant_of, bodies_of}
@@ -71,6 +71,7 @@ Generates es g (Pair x a r m n) t =
     (IsType es (a ∷ g) r) × Has es g m a × Has es g n (instantiate r m) × Below (bodies_of es) (Sigma tt a r) t
 Generates es g (Fst m) t = (a r : Term) × Has es g m (Sigma tt a r) × Below (bodies_of es) a t
 Generates es g (Snd m) t = (a r : Term) × Has es g m (Sigma tt a r) × Below (bodies_of es) (instantiate r (Fst m)) t
+Generates es g (Let x m n) t = (a q : Term) × Has es g m a × Has es g (instantiate n m) q × Below (bodies_of es) q t
 
 -- generation: by the last rules of a judgement, its parts are typed
 abbrev pub Generation : Type 0

@@ -1,6 +1,6 @@
 //! Laws of a comparison through head forms.
 
-ghost use Rattle.lego_laws.specs.Comparison.{ComparisonIsExact, FacingPartsAreRelated, DifferenceExcludesBelow, DifferenceExcludesConversion};
+ghost use Rattle.lego_laws.specs.Comparison.{ComparisonIsExact, FacingPartsAreRelated, DifferenceExcludesBelow, DifferenceExcludesConversion, FacingPartsAreScoped};
 ghost use Rattle.lego_laws.specs.Counting.{HeadStepsComeFirst, HeadStepsAreCounted, PartsStepsAreCounted, FewerStepsAreCounted, WalkedStepsAreCounted, LongWalksAreCostly, PartsAreReached, PartsEndTogether};
 
 /// The constraints that a comparison gathers are satisfied exactly where the first term is
@@ -9,7 +9,8 @@ pub fn comparison_is_exact()
     ensures { ComparisonIsExact }
 {}
 
-/// Head forms that face one another are related as the path's order says.
+/// Head forms that face one another are related as the path's order says, where the wholes are
+/// related so.
 pub fn facing_parts_are_related()
     ensures { FacingPartsAreRelated }
 {}
@@ -66,4 +67,10 @@ pub fn parts_are_reached()
 /// Where the sequences of a head form's parts end, its own sequence ends.
 pub fn parts_end_together()
     ensures { PartsEndTogether }
+{}
+
+/// The loose variables of head forms that face one another are those of the wholes, and of the
+/// binders crossed.
+pub fn facing_parts_are_scoped()
+    ensures { FacingPartsAreScoped }
 {}

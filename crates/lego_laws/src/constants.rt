@@ -1,8 +1,9 @@
 //! Laws of lists of constants: expansion, dropping, replacement.
 
 ghost use Rattle.lego_laws.specs.Abstraction.{Abstraction};
-ghost use Rattle.lego_laws.specs.Expansion.{Expansion, JudgementsExpand};
-ghost use Rattle.lego_laws.specs.Orders.{Reordering, ReorderedJudgements, FilledListsAreValid, JudgementsFill, PrefixesAreValid};
+ghost use Rattle.lego_laws.specs.Expansion.{Expansion, JudgementsExpand, PureTermsHaveNoLocal, StepsBringNoLocal, ConversionNeedsNoLocal};
+ghost use Rattle.lego_laws.specs.Mention.{UnreachedIsUnmentioned};
+ghost use Rattle.lego_laws.specs.Orders.{Reordering, ReorderedJudgements, FilledListsAreValid, JudgementsFill, PrefixesAreValid, BodiesMayBeGiven};
 ghost use Rattle.lego_laws.specs.Reduced.{ReducedListsAreValid, JudgementsOverReducedLists};
 ghost use Rattle.lego_laws.specs.Replacement.{Replacement, ClosingIsReplacement};
 ghost use Rattle.lego_laws.specs.Strengthening.{DroppedListsAreValid, Strengthening};
@@ -84,4 +85,31 @@ pub fn abstraction()
 /// The constants before any constant of a valid list are valid.
 pub fn prefixes_are_valid()
     ensures { PrefixesAreValid }
+{}
+
+/// Neither an entry that doesn't reach a constant, nor one that it reaches, mentions it.
+pub fn unreached_is_unmentioned()
+    ensures { UnreachedIsUnmentioned }
+{}
+
+/// No term of a derivation by Luo's rules alone has a local definition.
+pub fn pure_terms_have_no_local()
+    ensures { PureTermsHaveNoLocal }
+{}
+
+/// Where no constant's body has a local definition, steps bring none.
+pub fn steps_bring_no_local()
+    ensures { StepsBringNoLocal }
+{}
+
+/// Over closed bodies without local definitions, terms without them convert, or are below, by
+/// steps between such terms.
+pub fn conversion_needs_no_local()
+    ensures { ConversionNeedsNoLocal }
+{}
+
+/// An assumption may be given a body that has its type: the list stays valid, and each judgement
+/// stands.
+pub fn bodies_may_be_given()
+    ensures { BodiesMayBeGiven }
 {}

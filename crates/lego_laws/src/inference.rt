@@ -1,6 +1,6 @@
 //! Laws of inference: constraints that fit a term, from those that fit its parts.
 
-ghost use Rattle.lego_laws.specs.Inference.{FitsProp, FitsVariable, FitsConstant, FitsUniverse, FitsLambda, FitsProposition, FitsProduct, FitsSigma, FitsApplication, FitsPair, FitsFirst, FitsSecond, FitsAgainst, FitsByOthers, FitsInWiderRange, ContextsWiden, ContextsGrow};
+ghost use Rattle.lego_laws.specs.Inference.{FitsProp, FitsVariable, FitsConstant, FitsUniverse, FitsLambda, FitsProposition, FitsProduct, FitsSigma, FitsApplication, FitsPair, FitsFirst, FitsSecond, FitsAgainst, FitsAgainstWritten, FitsByOthers, FitsInWiderRange, ContextsWiden, ContextsGrow, FitsLocal};
 
 /// `Prop` needs no constraint.
 pub fn fits_prop()
@@ -69,6 +69,11 @@ pub fn fits_against()
     ensures { FitsAgainst }
 {}
 
+/// A written type adds its own constraints, and that the term's type is below it.
+pub fn fits_written()
+    ensures { FitsAgainstWritten }
+{}
+
 /// Constraints with the same solutions fit the same term.
 pub fn fits_by_others()
     ensures { FitsByOthers }
@@ -87,4 +92,9 @@ pub fn contexts_widen()
 /// A checked domain makes a context of the body under a binder.
 pub fn contexts_grow()
     ensures { ContextsGrow }
+{}
+
+/// A local definition's constraints are those of its value, and of its body with the value put in.
+pub fn fits_local()
+    ensures { FitsLocal }
 {}

@@ -4,47 +4,110 @@
 
 mod comparison;
 mod constants;
-mod examples;
+pub mod examples;
 mod inference;
 mod principal;
 mod reduction;
 mod typing;
 
-pub use comparison::{
-    comparison_is_exact, difference_excludes_below, difference_excludes_conversion,
-    facing_parts_are_related, fewer_steps_are_counted, head_steps_are_counted,
-    head_steps_come_first, long_walks_are_costly, parts_are_reached, parts_end_together,
-    parts_steps_are_counted, walked_steps_are_counted,
-};
-pub use constants::{
-    abstraction, closing_is_replacement, dropped_lists_are_valid, expansion,
-    filled_lists_are_valid, judgements_expand, judgements_fill, judgements_over_reduced_lists,
-    prefixes_are_valid, reduced_lists_are_valid, reordered_judgements, reordering, replacement,
-    strengthening, translation,
-};
-pub use examples::{
-    constant_has_its_shape, domains_must_convert, four_head_steps, identity_is_typed,
-    levels_dont_count_at_zero, no_sort_is_in_itself, propositions_have_products, redex_contracts,
-    rule_type_of_identity, universe_fits_exactly, universes_are_no_propositions,
-};
-pub use inference::{
-    contexts_grow, contexts_widen, fits_against, fits_application, fits_by_others, fits_constant,
-    fits_first, fits_in_wider_range, fits_lambda, fits_pair, fits_product, fits_prop,
-    fits_proposition, fits_second, fits_sigma, fits_universe, fits_variable,
-};
-pub use principal::{
-    argument_excludes, bodies_exclude, entries_are_a_context, entries_at_values,
-    excluded_has_no_typing, head_excludes, head_forms_are_unique, mismatch_excludes,
-    no_solution_excludes, no_type_excludes, parts_exclude, principal_checks, principal_types,
-    rule_types_are_below, rule_types_are_unique, rule_types_rename,
-    small_typings_have_small_solutions, typed_cores_have_wanted_heads,
-    typed_cores_have_wanted_pairs,
-};
-pub use reduction::{
-    below_inverts, confluence, head_forms_compare, parallel_steps_meet, pi_inverts, sigma_inverts,
-    sorts_invert, steps_keep_at_values, steps_substitute,
-};
-pub use typing::{
-    generalisation, generation, judgements_stand_in_valid_lists, narrowing, rules_are_derivations,
-    subject_reduction, substitution, thinning, thinning_by_constants, type_correctness,
-};
+pub use comparison::comparison_is_exact;
+pub use comparison::difference_excludes_below;
+pub use comparison::difference_excludes_conversion;
+pub use comparison::facing_parts_are_related;
+pub use comparison::facing_parts_are_scoped;
+pub use comparison::fewer_steps_are_counted;
+pub use comparison::head_steps_are_counted;
+pub use comparison::head_steps_come_first;
+pub use comparison::long_walks_are_costly;
+pub use comparison::parts_are_reached;
+pub use comparison::parts_end_together;
+pub use comparison::parts_steps_are_counted;
+pub use comparison::walked_steps_are_counted;
+pub use constants::abstraction;
+pub use constants::bodies_may_be_given;
+pub use constants::closing_is_replacement;
+pub use constants::conversion_needs_no_local;
+pub use constants::dropped_lists_are_valid;
+pub use constants::expansion;
+pub use constants::filled_lists_are_valid;
+pub use constants::judgements_expand;
+pub use constants::judgements_fill;
+pub use constants::judgements_over_reduced_lists;
+pub use constants::prefixes_are_valid;
+pub use constants::pure_terms_have_no_local;
+pub use constants::reduced_lists_are_valid;
+pub use constants::reordered_judgements;
+pub use constants::reordering;
+pub use constants::replacement;
+pub use constants::steps_bring_no_local;
+pub use constants::strengthening;
+pub use constants::translation;
+pub use constants::unreached_is_unmentioned;
+pub use inference::contexts_grow;
+pub use inference::contexts_widen;
+pub use inference::fits_against;
+pub use inference::fits_application;
+pub use inference::fits_by_others;
+pub use inference::fits_constant;
+pub use inference::fits_first;
+pub use inference::fits_in_wider_range;
+pub use inference::fits_lambda;
+pub use inference::fits_local;
+pub use inference::fits_pair;
+pub use inference::fits_product;
+pub use inference::fits_prop;
+pub use inference::fits_proposition;
+pub use inference::fits_second;
+pub use inference::fits_sigma;
+pub use inference::fits_universe;
+pub use inference::fits_variable;
+pub use inference::fits_written;
+pub use principal::entries_and_locals_are_a_context;
+pub use principal::entries_are_a_context;
+pub use principal::entries_at_values;
+pub use principal::fitting_types_are_types;
+pub use principal::head_forms_are_unique;
+pub use principal::nodes_are_counted;
+pub use principal::parts_are_numbered;
+pub use principal::parts_give_shapes;
+pub use principal::parts_stand_apart;
+pub use principal::principal_checks;
+pub use principal::principal_definitions;
+pub use principal::principal_rule_types;
+pub use principal::principal_types;
+pub use principal::reached_wants_give_shapes;
+pub use principal::renamed_entries_are_entries;
+pub use principal::rule_types_are_below;
+pub use principal::rule_types_are_scoped;
+pub use principal::rule_types_are_unique;
+pub use principal::rule_types_rename;
+pub use principal::shaped_cores_are_typed;
+pub use principal::small_checks_have_small_solutions;
+pub use principal::small_definitions_have_small_solutions;
+pub use principal::small_tasks_have_small_solutions;
+pub use principal::small_typings_have_small_solutions;
+pub use principal::typed_cores_have_wanted_heads;
+pub use principal::typed_cores_have_wanted_pairs;
+pub use principal::unsolvable_checks_have_no_typing;
+pub use principal::unsolvable_definitions_have_no_typing;
+pub use principal::unsolvable_tasks_have_no_typing;
+pub use principal::unsolvable_terms_have_no_type;
+pub use reduction::below_inverts;
+pub use reduction::confluence;
+pub use reduction::head_forms_compare;
+pub use reduction::parallel_steps_meet;
+pub use reduction::pi_inverts;
+pub use reduction::sigma_inverts;
+pub use reduction::sorts_invert;
+pub use reduction::steps_keep_at_values;
+pub use reduction::steps_substitute;
+pub use typing::generalisation;
+pub use typing::generation;
+pub use typing::judgements_stand_in_valid_lists;
+pub use typing::narrowing;
+pub use typing::rules_are_derivations;
+pub use typing::subject_reduction;
+pub use typing::substitution;
+pub use typing::thinning;
+pub use typing::thinning_by_constants;
+pub use typing::type_correctness;

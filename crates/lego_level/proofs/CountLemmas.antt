@@ -7,9 +7,9 @@ use Rattle.lego_level.specs.declared.direction.Direction.TheVariants.{Up, Down}
 use Rattle.lego_level.specs.declared.search.Task.{Task}
 use Rattle.lego_level.specs.declared.search.Search.{Search}
 use Rattle.lego_level.specs.Graphs.{implied, IsVariableBelow}
-use Rattle.lego_level.specs.Incidence.{far_of}
-use Rattle.lego_level.specs.Measures.{miss, unseen_below, unseen, above, ceiling, nodes_below, width, measure}
-use Rattle.lego_level.specs.Searches.{reached_at, IsScanned, IsEdge, Searches, SameDone}
+use Rattle.lego_level.specs.private.Incidence.{far_of}
+use Rattle.lego_level.specs.private.Measures.{miss, unseen_below, unseen, above, ceiling, nodes_below, width, measure}
+use Rattle.lego_level.specs.private.Searches.{reached_at, IsScanned, IsEdge, Searches, SameDone}
 use Rattle.lego_level.proofs.MemberLemmas.{contains_none, contains_cases, contains_head, contains_tail}
 
 above_some : (base : Option ℕ) (u : ℕ) → base ≡ Some u → above base ≡ u + 1

@@ -13,9 +13,9 @@ use Rattle.lego_level.specs.declared.direction.Direction.TheVariants.{Up, Down}
 use Rattle.lego_level.specs.declared.draft.Reached.{Reached}
 use Rattle.lego_level.specs.declared.search.Task.{Task}
 use Rattle.lego_level.specs.Graphs.{IsWalk, Differ, IsClosedWalk, IsKnown}
-use Rattle.lego_level.specs.Incidence.{near_of, far_of}
-use Rattle.lego_level.specs.Potentials.{low_of, high_of}
-use Rattle.lego_level.specs.Searches.{unreached, IsEdge, Turns}
+use Rattle.lego_level.specs.private.Incidence.{near_of, far_of}
+use Rattle.lego_level.specs.private.Potentials.{low_of, high_of}
+use Rattle.lego_level.specs.private.Searches.{unreached, IsEdge, Turns}
 use Rattle.lego_level.proofs.MemberLemmas.{contains_none, contains_cases, contains_head, contains_tail}
 
 known_more : (t : Task) (cs : List Constraint) (c : Constraint) → IsEdge t cs c → IsKnown (t.added ∷ cs) c

@@ -5,7 +5,7 @@ use Rattle.std.proofs.lemmas.Bool.Decides.{nat_tests}
 use Rattle.std.proofs.lemmas.List.Elements.{Contains-push, Contains-append_left}
 use Rattle.lego_level.specs.declared.draft.Reached.{Reached}
 use Rattle.lego_level.specs.declared.draft.Draft.{Draft}
-use Rattle.lego_level.specs.Searches.{found_at, IsTouched}
+use Rattle.lego_level.specs.private.Searches.{found_at, IsTouched}
 use Rattle.lego_level.proofs.SearchLemmas.{node_cases}
 
 pub found_none : (d : Draft) → d.zero ≡ None → ((u : ℕ) → get nat_eq d.variables u ≡ None) → (u : Option ℕ) → found_at d u ≡ None

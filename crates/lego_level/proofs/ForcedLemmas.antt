@@ -4,11 +4,12 @@ use Rattle.std.specs.List.{AllByRecursion}
 use Rattle.std.proofs.lemmas.List.Elements.{Contains-push_cases}
 use Rattle.std.proofs.lemmas.List.Sums.{sum_by_push}
 use Rattle.lego_term.specs.Levels.{node_value}
+use Rattle.lego_level.specs.declared.limits.TheConstants.{MAX_VALUE}
 use Rattle.lego_level.specs.declared.constraint.Constraint.{Constraint}
 use Rattle.lego_level.specs.declared.draft.Reached.{Reached}
 use Rattle.lego_level.specs.Graphs.{IsWalk, Differ, IsKnown, IsForcing, Forces, IsVariableBelow, HasVariablesBelow}
-use Rattle.lego_level.specs.Lowest.{values_in, IsForced, IsLowest}
-use Rattle.lego_level.specs.Potentials.{low_of, high_of}
+use Rattle.lego_level.specs.private.Lowest.{values_in, IsForced, IsLowest}
+use Rattle.lego_level.specs.private.Potentials.{low_of, high_of}
 use Rattle.lego_level.proofs.CycleLemmas.{walk_push, once_push}
 use Rattle.lego_level.proofs.LeastLemmas.{node_is, least_values}
 use Rattle.lego_level.proofs.MemberLemmas.{contains_none}
@@ -83,7 +84,7 @@ module _ (cs : List Constraint) (n : ℕ) (d : Option ℕ → Reached) (z : IsLo
       let a0 : c.low.plus ≡ 0 = ap (λ (y : Constraint). y.low.plus) k in let b0 : node_value xs c.low.base ≡ 0 = ap (λ (y : Constraint). node_value xs y.low.base) k in
       absurd (omega (arith, a0, b0, low, t, e, a, pos))) x.known
 
-  pub forces_value : (u : ℕ) → u < n → 1000000 < get_or xs u 0 → Forces cs (d (Some u)).cause (get_or xs u 0)
+  pub forces_value : (u : ℕ) → u < n → MAX_VALUE < get_or xs u 0 → Forces cs (d (Some u)).cause (get_or xs u 0)
   forces_value u h over =
       let c = (d (Some u)).cause in let x = z.forced u h in let before = led cs d n z ((d c.low.base).rank + 1) c.low.base x.below (omega arith) in record {
         values = xs;

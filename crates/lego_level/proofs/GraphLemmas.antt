@@ -7,7 +7,7 @@ use Rattle.lego_level.specs.declared.constraint.Constraint.{Constraint}
 use Rattle.lego_level.specs.declared.solver.InsertFault.{InsertFault}
 use Rattle.lego_level.specs.declared.solver.InsertFault.TheVariants as insert
 use Rattle.lego_level.specs.Graphs.{pairs_of, IsKnown, CanBeSatisfiedWithin}
-use Rattle.lego_level.specs.Faults.{IsInsertFault}
+use Rattle.lego_level.specs.private.Faults.{IsInsertFault}
 use Rattle.lego_level.specs.Refusals.{graph_fault, IsGraphFault}
 use Rattle.lego_level.proofs.LeastLemmas.{meets, satisfies}
 

@@ -5,9 +5,9 @@ use Rattle.std.proofs.lemmas.Bool.Decides.{nat_tests}
 use Rattle.lego_level.specs.declared.constraint.Constraint.{Constraint}
 use Rattle.lego_level.specs.declared.direction.Direction.{Direction}
 use Rattle.lego_level.specs.declared.edges.Adjacency.{Adjacency}
-use Rattle.lego_level.specs.Adjacency.{adjacent_at}
+use Rattle.lego_level.specs.private.Adjacency.{adjacent_at}
 use Rattle.lego_level.specs.Graphs.{IsVariableBelow, HasVariablesBelow}
-use Rattle.lego_level.specs.Incidence.{near_of, is_node, incident}
+use Rattle.lego_level.specs.private.Incidence.{near_of, is_node, incident}
 use Rattle.lego_level.proofs.MemberLemmas.{contains_none, contains_cases, contains_head, contains_tail}
 use Rattle.lego_level.proofs.SearchLemmas.{bool_cases, node_cases}
 

@@ -9,9 +9,9 @@ use Rattle.lego_level.specs.declared.draft.Reached.{Reached}
 use Rattle.lego_level.specs.declared.search.Task.{Task}
 use Rattle.lego_level.specs.declared.search.Search.{Search}
 use Rattle.lego_level.specs.Graphs.{implied, IsLeast, IsVariableBelow, HasVariablesBelow, pairs_of}
-use Rattle.lego_level.specs.Lowest.{IsForced, IsLowest}
-use Rattle.lego_level.specs.Potentials.{IsFeasible}
-use Rattle.lego_level.specs.Searches.{blank, reached_at, IsEdge, IsRelaxed, IsLinked, Searches, Stops}
+use Rattle.lego_level.specs.private.Lowest.{IsForced, IsLowest}
+use Rattle.lego_level.specs.private.Potentials.{IsFeasible}
+use Rattle.lego_level.specs.private.Searches.{blank, reached_at, IsEdge, IsRelaxed, IsLinked, Searches, Stops}
 use Rattle.lego_level.proofs.MemberLemmas.{contains_none, contains_cases, contains_head, contains_tail}
 use Rattle.lego_level.proofs.SearchLemmas.{edge_known, relaxed}
 

@@ -6,14 +6,15 @@ use Rattle.std.specs.declared.alloc.AllocError.{AllocError}
 use Rattle.std.proofs.lemmas.List.Elements.{Contains-push_cases, Contains-push, Contains-append_left}
 use Rattle.std.proofs.lemmas.List.FromFn.{length-map-range_with_len, get_or-map-range_with_len}
 use Rattle.std.proofs.lemmas.List.Sums.{sum_by-cons}
+use Rattle.lego_level.specs.declared.limits.TheConstants.{MAX_VALUE}
 use Rattle.lego_level.specs.declared.constraint.Constraint.{Constraint}
 use Rattle.lego_level.specs.declared.draft.Reached.{Reached}
 use Rattle.lego_level.specs.declared.potential.Potential.{Potential}
 use Rattle.lego_level.specs.declared.solver.Settled.TheVariants.{Within, Over}
 use Rattle.lego_level.specs.Graphs.{implied, IsKnown, IsLeast, Forces, IsClosedWalk, IsCycle, IsVariableBelow, HasVariablesBelow, CanBeSatisfied, CanBeSatisfiedWithin}
-use Rattle.lego_level.specs.Lowest.{IsLowest}
-use Rattle.lego_level.specs.Outcomes.{IsSettled}
-use Rattle.lego_level.specs.Potentials.{value_at, low_of, high_of, IsFeasible, IsBelowTop}
+use Rattle.lego_level.specs.private.Lowest.{IsLowest}
+use Rattle.lego_level.specs.private.Outcomes.{IsSettled}
+use Rattle.lego_level.specs.private.Potentials.{value_at, low_of, high_of, IsFeasible, IsBelowTop}
 use Rattle.lego_level.proofs.CycleLemmas.{cycle_excludes}
 use Rattle.lego_level.proofs.ForcedLemmas.{forces_value}
 use Rattle.lego_level.proofs.LeastLemmas.{low_variable, meets, least_values}
@@ -49,11 +50,18 @@ refuses_alone v es e over same =
 pub feasible_last : (v : Option ℕ → ℕ) (es es' : List Constraint) (e : Constraint) → es' ≡ es ++ e ∷ [] → IsFeasible v (e ∷ es) → IsFeasible v es'
 feasible_last v es es' e is feasible c known = feasible c (last_known es e c (subst (λ z. IsKnown z c) is known))
 
+-- a constraint that the values satisfy
+pub feasible_with : (v : Option ℕ → ℕ) (es : List Constraint) (e : Constraint) → IsFeasible v es → low_of v e ≤ high_of v e → IsFeasible v (e ∷ es)
+feasible_with v es e feasible holds c known =
+    ⊎_elim {C = low_of v c ≤ high_of v c}
+    (λ k. ⊎_elim {C = low_of v c ≤ high_of v c} (λ is. subst (λ z. low_of v z ≤ high_of v z) (sym is) holds) (λ h. feasible c (inl h)) (contains_cases e es c k))
+    (λ i. feasible c (inr i)) known
+
 pub zero_below_top : (p : Potential) (cs : List Constraint) → IsFeasible (value_at p) cs → IsBelowTop p → p.zero ≤ p.top
 zero_below_top p cs feasible top = let k = feasible (implied 0) (inr (0, refl)) in let t = top 0 in let z = value_zero p None refl in omega (arith, k, t, z)
 
 -- a narrow potential
-pub narrow : (p : Potential) (n : ℕ) (cs : List Constraint) → IsFeasible (value_at p) cs → IsBelowTop p → HasVariablesBelow n cs → p.top - p.zero ≤ 1000000 → CanBeSatisfiedWithin cs
+pub narrow : (p : Potential) (n : ℕ) (cs : List Constraint) → IsFeasible (value_at p) cs → IsBelowTop p → HasVariablesBelow n cs → p.top - p.zero ≤ MAX_VALUE → CanBeSatisfiedWithin cs
 narrow p n cs feasible top below h = satisfied_within (value_at p) n cs feasible below (λ u. let t = top u in let z = value_zero p None refl in let l = zero_below_top p cs feasible top in omega (arith, t, z, l, h))
 
 pub least_result : (cs : List Constraint) (n : ℕ) (d : Option ℕ → Reached) → IsLowest cs n d → HasVariablesBelow n cs → (r : Result (Vec ℕ Global) AllocError) → IfOk r (λ xs. length xs.items ≡ n)
@@ -73,11 +81,11 @@ laid_out cs n limit d p z below s c known =
     node_out None h = refl
     node_out (Some u) h = s.0 u h
 
-pub laid_out_within : (cs : List Constraint) (n : ℕ) (d : Option ℕ → Reached) (p : Potential) → IsLowest cs n d → HasVariablesBelow n cs → IsSettled n 1000000 d (Within p) → CanBeSatisfiedWithin cs
-laid_out_within cs n d p z below s = satisfied_within (value_at p) n cs (laid_out cs n 1000000 d p z below s) below s.2
+pub laid_out_within : (cs : List Constraint) (n : ℕ) (d : Option ℕ → Reached) (p : Potential) → IsLowest cs n d → HasVariablesBelow n cs → IsSettled n MAX_VALUE d (Within p) → CanBeSatisfiedWithin cs
+laid_out_within cs n d p z below s = satisfied_within (value_at p) n cs (laid_out cs n MAX_VALUE d p z below s) below s.2
 
 -- a least value over the limit
-pub forces_over : (cs : List Constraint) (n : ℕ) (d : Option ℕ → Reached) (c : Constraint) (needed : ℕ) → IsLowest cs n d → HasVariablesBelow n cs → IsSettled n 1000000 d (Over c needed) → Forces cs c needed
+pub forces_over : (cs : List Constraint) (n : ℕ) (d : Option ℕ → Reached) (c : Constraint) (needed : ℕ) → IsLowest cs n d → HasVariablesBelow n cs → IsSettled n MAX_VALUE d (Over c needed) → Forces cs c needed
 forces_over cs n d c needed z below s =
     let f : ℕ → ℕ = λ u. (d (Some u)).value - (d None).value in let xs = map f (range_with_len 0 n) in
     let at : (u : ℕ) → u < n → get_or xs u 0 ≡ (d (Some u)).value - (d None).value = λ u h. get_or-map-range_with_len f 0 n u u 0 h (omega arith) in

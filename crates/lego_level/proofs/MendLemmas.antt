@@ -10,10 +10,10 @@ use Rattle.lego_level.specs.declared.mend.Outcome.TheVariants.{Mended, Closed}
 use Rattle.lego_level.specs.declared.search.Task.{Task}
 use Rattle.lego_level.specs.declared.search.Search.{Search}
 use Rattle.lego_level.specs.Graphs.{implied}
-use Rattle.lego_level.specs.Incidence.{near_of, far_of}
-use Rattle.lego_level.specs.Outcomes.{IsMending, IsOutcome}
-use Rattle.lego_level.specs.Potentials.{low_of, high_of, IsFeasible}
-use Rattle.lego_level.specs.Searches.{reached_at, unreached, moved_to, IsMoved, IsScanned, IsEdge, IsUpperZero, IsStop, IsRelaxed, Searches, Stops, Turns}
+use Rattle.lego_level.specs.private.Incidence.{near_of, far_of}
+use Rattle.lego_level.specs.private.Outcomes.{IsMending, IsOutcome}
+use Rattle.lego_level.specs.private.Potentials.{low_of, high_of, IsFeasible}
+use Rattle.lego_level.specs.private.Searches.{reached_at, unreached, moved_to, IsMoved, IsScanned, IsEdge, IsUpperZero, IsStop, IsRelaxed, Searches, Stops, Turns}
 use Rattle.lego_level.proofs.MemberLemmas.{contains_cases}
 use Rattle.lego_level.proofs.SearchLemmas.{relaxed}
 

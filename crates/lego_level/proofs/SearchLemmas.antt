@@ -6,9 +6,9 @@ use Rattle.lego_level.specs.declared.draft.Reached.{Reached}
 use Rattle.lego_level.specs.declared.search.Task.{Task}
 use Rattle.lego_level.specs.declared.search.Search.{Search}
 use Rattle.lego_level.specs.Graphs.{IsKnown}
-use Rattle.lego_level.specs.Incidence.{near_of, far_of}
-use Rattle.lego_level.specs.Potentials.{low_of, high_of, IsFeasible}
-use Rattle.lego_level.specs.Searches.{found_at, reached_or, reached_at, unreached, IsTouched, IsEdge, IsStop, IsRelaxed, IsFirst, IsLinked, IsReached, IsQueued, IsAt, Scans, Searches, Stops, IsPut, IsPushed, SameDone}
+use Rattle.lego_level.specs.private.Incidence.{near_of, far_of}
+use Rattle.lego_level.specs.private.Potentials.{low_of, high_of, IsFeasible}
+use Rattle.lego_level.specs.private.Searches.{found_at, reached_or, reached_at, unreached, IsTouched, IsEdge, IsStop, IsRelaxed, IsFirst, IsLinked, IsReached, IsQueued, IsAt, Scans, Searches, Stops, IsPut, IsPushed, SameDone}
 use Rattle.lego_level.proofs.MemberLemmas.{contains_none}
 
 pub node_cases : (a b : Option ℕ) → (a ≡ b) ⊎ (a ≡ b → ⊥)

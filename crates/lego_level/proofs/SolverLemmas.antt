@@ -6,12 +6,13 @@ use Rattle.std.proofs.lemmas.List.{drop_more, take_more, get_or_append_left, get
 use Rattle.std.proofs.lemmas.List.Elements.{Contains-get_or, Contains-append_left}
 use Rattle.std.proofs.lemmas.List.FromFn.{length-map-range_with_len, get_or-map-range_with_len}
 use Rattle.lego_term.specs.Levels.{Assignment, node_value}
+use Rattle.lego_level.specs.declared.limits.TheConstants.{MAX_VALUE}
 use Rattle.lego_level.specs.declared.constraint.Constraint.{Constraint}
 use Rattle.lego_level.specs.declared.draft.Reached.{Reached}
 use Rattle.lego_level.specs.declared.draft.Draft.{Draft}
 use Rattle.lego_level.specs.Graphs.{implied, IsKnown, IsVariableBelow, HasVariablesBelow, CanBeSatisfiedWithin}
-use Rattle.lego_level.specs.Potentials.{IsFeasible}
-use Rattle.lego_level.specs.Searches.{blank, found_at, reached_or, reached_at, moved_to, IsTouched}
+use Rattle.lego_level.specs.private.Potentials.{IsFeasible}
+use Rattle.lego_level.specs.private.Searches.{blank, found_at, reached_or, reached_at, moved_to, IsTouched}
 use Rattle.lego_level.proofs.DraftLemmas.{option_cases}
 use Rattle.lego_level.proofs.LeastLemmas.{low_variable, satisfies}
 use Rattle.lego_level.proofs.MemberLemmas.{contains_none, contains_cases}
@@ -62,7 +63,7 @@ values_more xs ys n x base f is len here all u h = ⊎_elim {C = get_or ys u 0 +
     (λ ne. let l : u < n = omega (arith, h, ne) in let a = all u l in let k : get_or ys u 0 ≡ get_or xs u 0 = ap (λ z. get_or z u 0) is ∙ get_or_append_left xs (x ∷ []) 0 u (omega (arith, l, len)) in omega (arith, a, k)) (cases_eq u n)
 
 -- values within the limit above the zero node
-module _ (v : Option ℕ → ℕ) (n : ℕ) (cs : List Constraint) (feasible : IsFeasible v cs) (below : HasVariablesBelow n cs) (within : (u : ℕ) → v (Some u) ≤ v None + 1000000) where
+module _ (v : Option ℕ → ℕ) (n : ℕ) (cs : List Constraint) (feasible : IsFeasible v cs) (below : HasVariablesBelow n cs) (within : (u : ℕ) → v (Some u) ≤ v None + MAX_VALUE) where
   abbrev height : ℕ → ℕ
   height u = v (Some u) - v None
 
@@ -76,8 +77,8 @@ module _ (v : Option ℕ → ℕ) (n : ℕ) (cs : List Constraint) (feasible : I
   node_at None h = omega arith
   node_at (Some u) h = assigned_at u h
 
-  assigned_within : (u : ℕ) → get_or assigned u 0 ≤ 1000000
-  assigned_within u = ⊎_elim {C = get_or (map height (range_with_len 0 n)) u 0 ≤ 1000000}
+  assigned_within : (u : ℕ) → get_or assigned u 0 ≤ MAX_VALUE
+  assigned_within u = ⊎_elim {C = get_or (map height (range_with_len 0 n)) u 0 ≤ MAX_VALUE}
       (λ l. let a = assigned_at u l in let k = within u in omega (arith, a, k))
       (λ g. let len = length-map-range_with_len height 0 n in let e = get_or_past (map height (range_with_len 0 n)) u 0 (omega (arith, len, g)) in omega (arith, e)) (cases_lt u n)
 

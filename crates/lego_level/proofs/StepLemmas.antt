@@ -9,9 +9,9 @@ use Rattle.lego_level.specs.declared.draft.Reached.{Reached}
 use Rattle.lego_level.specs.declared.search.Task.{Task}
 use Rattle.lego_level.specs.declared.search.Search.{Search}
 use Rattle.lego_level.specs.Graphs.{implied}
-use Rattle.lego_level.specs.Incidence.{near_of, incident}
-use Rattle.lego_level.specs.Potentials.{IsFeasible}
-use Rattle.lego_level.specs.Searches.{reached_at, IsEdge, IsScanned, Grown, IsAt, IsImpliedAt, Scans, Searches, Stops, Visited, SameDone}
+use Rattle.lego_level.specs.private.Incidence.{near_of, incident}
+use Rattle.lego_level.specs.private.Potentials.{IsFeasible}
+use Rattle.lego_level.specs.private.Searches.{reached_at, IsEdge, IsScanned, Grown, IsAt, IsImpliedAt, Scans, Searches, Stops, Visited, SameDone}
 use Rattle.lego_level.proofs.IncidenceLemmas.{incident_member, member_incident}
 use Rattle.lego_level.proofs.MemberLemmas.{contains_none, contains_cases}
 use Rattle.lego_level.proofs.SearchLemmas.{edge_known, true_false, passes, pushes, stopped, retodo}

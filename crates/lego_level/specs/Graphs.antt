@@ -2,6 +2,7 @@
 use Rattle.std.specs.Prelude.{◌≡◌, ℕ, ◌<◌, ◌≤◌, ◌⊎◌, ◌+◌, ◌++◌, List, [], ◌∷◌, map, Option, Some, None, sum_by, get_or, Contains}
 use Rattle.std.specs.List.{AllByRecursion}
 use Rattle.lego_term.specs.Levels.{Assignment, LevelPair, SatisfiesAll, fixed_level, variable_level}
+use Rattle.lego_level.specs.declared.limits.TheConstants.{MAX_VALUE}
 use Rattle.lego_level.specs.declared.constraint.Constraint.{Constraint}
 
 -- a constraint as the rules see it
@@ -46,7 +47,7 @@ CanBeSatisfied cs = (v : Assignment) × SatisfiesAll v (pairs_of cs)
 
 -- some assignment of values up to 1,000,000 satisfies the constraints
 abbrev pub CanBeSatisfiedWithin : List Constraint → Type 0
-CanBeSatisfiedWithin cs = (v : Assignment) × SatisfiesAll v (pairs_of cs) × ((u : ℕ) → get_or v u 0 ≤ 1000000)
+CanBeSatisfiedWithin cs = (v : Assignment) × SatisfiesAll v (pairs_of cs) × ((u : ℕ) → get_or v u 0 ≤ MAX_VALUE)
 
 -- v satisfies the constraints, and each assignment that does has values at least as great
 pub record IsLeast (cs : List Constraint) (v : Assignment) : Type 0 where
@@ -67,7 +68,7 @@ pub record Forces (cs : List Constraint) (c : Constraint) (needed : ℕ) : Type 
   pub before : List Constraint
   pub least : IsLeast cs values
   pub value : get_or values variable 0 ≡ needed
-  pub over : 1000000 < needed
+  pub over : MAX_VALUE < needed
   pub forced : IsForcing cs (before ++ c ∷ []) variable needed
   pub listed : Contains cs c
 

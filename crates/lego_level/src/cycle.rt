@@ -2,8 +2,8 @@
 //! met twice.
 ghost use Rattle.std.specs.Prelude.{◌≡◌, ◌∷◌, Contains, IfOk};
 ghost use Rattle.lego_level.specs.Graphs.{IsClosedWalk, IsKnown};
-ghost use Rattle.lego_level.specs.Potentials.{value_at};
-ghost use Rattle.lego_level.specs.Searches.{reached_at, Turns};
+ghost use Rattle.lego_level.specs.private.Potentials.{value_at};
+ghost use Rattle.lego_level.specs.private.Searches.{reached_at, Turns};
 ghost use Rattle.lego_level.specs.declared.constraint.Constraint.{Constraint};
 ghost use Rattle.lego_level.specs.declared.direction.Direction.TheVariants.{Up, Down};
 

@@ -1,6 +1,6 @@
 //! The two ways along a constraint.
 ghost use Rattle.std.specs.Prelude.{◌≡◌};
-ghost use Rattle.lego_level.specs.Incidence.{near_of, far_of};
+ghost use Rattle.lego_level.specs.private.Incidence.{near_of, far_of};
 
 use crate::constraint::Constraint;
 

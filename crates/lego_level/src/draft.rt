@@ -1,6 +1,6 @@
 //! The nodes that a search has reached.
 ghost use Rattle.std.specs.Prelude.{◌≡◌, ℕ, Option, Some, None, IfOk, OnOk};
-ghost use Rattle.lego_level.specs.Searches.{found_at, reached_at, IsTouched};
+ghost use Rattle.lego_level.specs.private.Searches.{found_at, reached_at, IsTouched};
 
 use crate::constraint::Constraint;
 use lego_term::Level;

@@ -2,8 +2,8 @@
 ghost use Rattle.std.specs.Prelude.{◌≡◌, ◌<◌, ◌++◌, ℕ, List, [], ◌∷◌, ◌≤◌, length, get_or, IfOk, OnOk, OnErr, Option};
 ghost use Rattle.lego_level.specs.declared.constraint.Constraint.{Constraint};
 ghost use Rattle.lego_level.specs.Graphs.{HasVariablesBelow, IsVariableBelow};
-ghost use Rattle.lego_level.specs.Incidence.{incident};
-ghost use Rattle.lego_level.specs.Adjacency.{adjacent_at};
+ghost use Rattle.lego_level.specs.private.Incidence.{incident};
+ghost use Rattle.lego_level.specs.private.Adjacency.{adjacent_at};
 
 use crate::constraint::Constraint;
 use crate::direction::Direction;
@@ -144,8 +144,8 @@ impl Model for Edges {
     ghost use Rattle.lego_level.specs.declared.constraint.Constraint.{Constraint};
     ghost use Rattle.lego_level.specs.declared.direction.Direction.TheVariants.{Up, Down};
     ghost use Rattle.lego_level.specs.Graphs.{HasVariablesBelow};
-    ghost use Rattle.lego_level.specs.Incidence.{incident};
-    ghost use Rattle.lego_level.specs.Adjacency.{adjacent_at};
+    ghost use Rattle.lego_level.specs.private.Incidence.{incident};
+    ghost use Rattle.lego_level.specs.private.Adjacency.{adjacent_at};
 
     ghost Value = { List Constraint };
 
@@ -165,6 +165,17 @@ impl Edges {
             arriving: Adjacency::new(alloc),
             count: 0,
         }
+    }
+
+    /// The same constraints.
+    pub fn copy(&self, alloc: Global) -> Result<Edges, AllocError>
+        ensures { IfOk result (λ copy. copy ≡ self.now) }
+    {
+        let mut copy = Edges::new(alloc);
+        for constraint in self.all() {
+            copy.push(alloc, *constraint)?;
+        }
+        Ok(copy)
     }
 
     pub fn all(&self) -> &[Constraint]

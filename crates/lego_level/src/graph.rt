@@ -41,6 +41,17 @@ impl Graph {
         }
     }
 
+    /// A graph of the same constraints, to which others can be added without changing this one.
+    pub fn copy(&self) -> Result<Graph, AllocError>
+        ensures { IfOk result (λ copy. copy ≡ self.now) }
+    {
+        let solver = self.solver.copy(self.alloc)?;
+        Ok(Graph {
+            alloc: self.alloc,
+            solver,
+        })
+    }
+
     /// Adds constraints behind those held. All of them are refused where they and the held ones
     /// can't be satisfied together (`Cycle`), or can only with a value over 1,000,000
     /// (`LevelTooBig`), or where memory runs out; then the graph is as it was.
@@ -103,7 +114,6 @@ fn add_all(alloc: Global, solver: &mut Solver, more: &[Constraint]) -> Result<()
     ensures longer { length solver.old ≤ length solver.new }
 {
     for constraint in more {
-        solver.narrow(alloc);
         solver.insert(alloc, *constraint)?;
     }
     let Ok(over) = solver.settle(alloc) else {

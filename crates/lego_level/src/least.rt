@@ -1,9 +1,9 @@
 //! The least solution, from a potential: all that can rise with the zero node rises with it.
 ghost use Rattle.std.specs.Prelude.{IfOk};
 ghost use Rattle.lego_level.specs.Graphs.{HasVariablesBelow};
-ghost use Rattle.lego_level.specs.Lowest.{IsLowest};
-ghost use Rattle.lego_level.specs.Potentials.{value_at, IsFeasible, IsBelowTop};
-ghost use Rattle.lego_level.specs.Searches.{reached_at};
+ghost use Rattle.lego_level.specs.private.Lowest.{IsLowest};
+ghost use Rattle.lego_level.specs.private.Potentials.{value_at, IsFeasible, IsBelowTop};
+ghost use Rattle.lego_level.specs.private.Searches.{reached_at};
 
 use crate::direction::Direction;
 use crate::draft::{BLANK, Draft};

@@ -10,13 +10,12 @@ mod edges;
 mod fault;
 mod graph;
 mod least;
+mod limits;
 mod mend;
 mod potential;
 mod queue;
 mod search;
 mod solver;
-#[cfg(test)]
-mod tests;
 
 pub use constraint::Constraint;
 pub use fault::GraphFault;

@@ -3,9 +3,9 @@
 ghost use Rattle.std.specs.Prelude.{◌≡◌, ◌+◌, ◌<◌, IfOk, None};
 ghost use Rattle.lego_level.specs.declared.direction.Direction.TheVariants.{Up, Down};
 ghost use Rattle.lego_level.specs.declared.mend.Outcome.TheVariants.{Closed};
-ghost use Rattle.lego_level.specs.Outcomes.{IsMending, IsOutcome};
-ghost use Rattle.lego_level.specs.Potentials.{value_at, low_of, high_of, IsFeasible};
-ghost use Rattle.lego_level.specs.Searches.{Searches};
+ghost use Rattle.lego_level.specs.private.Outcomes.{IsMending, IsOutcome};
+ghost use Rattle.lego_level.specs.private.Potentials.{value_at, low_of, high_of, IsFeasible};
+ghost use Rattle.lego_level.specs.private.Searches.{Searches};
 
 use crate::constraint::Constraint;
 use crate::direction::Direction;

@@ -1,12 +1,11 @@
 //! A value for each node, such that the constraints are satisfied.
 ghost use Rattle.std.specs.Prelude.{◌≡◌, ◌<◌, ℕ, Option, IfOk, OnOk, Some};
-ghost use Rattle.lego_level.specs.Potentials.{value_at, low_of, high_of, HasRoom, IsBelowTop};
+ghost use Rattle.lego_level.specs.declared.limits.TheConstants.{START};
+ghost use Rattle.lego_level.specs.private.Potentials.{value_at, low_of, high_of, HasRoom, IsBelowTop};
 
 use crate::constraint::Constraint;
+use crate::limits::START;
 use std::alloc::{AllocError, Global};
-
-/// The value at which each node begins. Values fall below it and rise above it.
-pub const START: u64 = 1 << 62;
 
 /// The value of the zero node, and those of the variables; one behind the end has the value
 /// `START`. The top is at least the value of each variable.
@@ -19,14 +18,28 @@ pub struct Potential {
 
 impl Potential {
     pub fn new(alloc: Global) -> Potential
-        ensures start { (u : Option ℕ) → value_at result u ≡ 4611686018427387904 }
-        ensures top { result.top ≡ 4611686018427387904 }
+        ensures start { (u : Option ℕ) → value_at result u ≡ START }
+        ensures top { result.top ≡ START }
     {
         Potential {
             zero: START,
             values: Vec::new(alloc),
             top: START,
         }
+    }
+
+    /// The same values.
+    pub fn copy(&self, alloc: Global) -> Result<Potential, AllocError>
+        ensures values { IfOk result (λ copy. value_at copy ≡ value_at self.now) }
+        ensures top { IfOk result (λ copy. copy.top ≡ self.now.top) }
+    {
+        let mut values = Vec::new(alloc);
+        values.extend_from_slice(self.values.as_slice())?;
+        Ok(Potential {
+            zero: self.zero,
+            values,
+            top: self.top,
+        })
     }
 
     /// The value of a node.

@@ -4,12 +4,12 @@
 //! constraint there is a cycle.
 ghost use Rattle.std.specs.Prelude.{◌≡◌, ◌+◌, ◌<◌, ◌≤◌, true, false, None, length, Option, IfOk, OnOk, IsTrue, ◌↔◌, MatchOption};
 ghost use Rattle.lego_level.specs.Graphs.{implied};
-ghost use Rattle.lego_level.specs.Incidence.{incident};
+ghost use Rattle.lego_level.specs.private.Incidence.{incident};
 ghost use Rattle.lego_level.specs.declared.constraint.Constraint.{Constraint};
 ghost use Rattle.lego_level.specs.declared.direction.Direction.TheVariants.{Up};
-ghost use Rattle.lego_level.specs.Potentials.{value_at, low_of, high_of, IsFeasible};
-ghost use Rattle.lego_level.specs.Searches.{IsStop, IsMoved, IsPut, Visited, Scans, Searches, Stops, IsAt, IsImpliedAt, SameDone};
-ghost use Rattle.lego_level.specs.Steps.{IsStep};
+ghost use Rattle.lego_level.specs.private.Potentials.{value_at, low_of, high_of, IsFeasible};
+ghost use Rattle.lego_level.specs.private.Searches.{IsStop, IsMoved, IsPut, Visited, Scans, Searches, Stops, IsAt, IsImpliedAt, SameDone};
+ghost use Rattle.lego_level.specs.private.Steps.{IsStep};
 
 use crate::constraint::Constraint;
 use crate::direction::Direction;

@@ -1,18 +1,20 @@
 //! Constraints with a potential that satisfies them, one at a time.
 ghost use Rattle.std.specs.Prelude.{◌≡◌, ◌+◌, ◌<◌, ◌≤◌, ◌-◌, take, ◌++◌, ◌∷◌, [], ℕ, Option, Some, None, length, get_or, MatchOption, IfOk, IfErr, OnOk, OnErr, Contains};
+ghost use Rattle.lego_level.specs.declared.limits.TheConstants.{MAX_SPREAD};
 ghost use Rattle.lego_level.specs.Graphs.{CanBeSatisfiedWithin, Forces, HasVariablesBelow, IsLeast};
-ghost use Rattle.lego_level.specs.Faults.{IsInsertFault};
-ghost use Rattle.lego_level.specs.Outcomes.{IsSettled};
-ghost use Rattle.lego_level.specs.Potentials.{value_at, HasRoom, IsBelowTop, IsFeasible};
-ghost use Rattle.lego_level.specs.Searches.{reached_at, moved_to, IsTouched};
+ghost use Rattle.lego_level.specs.private.Faults.{IsInsertFault};
+ghost use Rattle.lego_level.specs.private.Outcomes.{IsSettled};
+ghost use Rattle.lego_level.specs.private.Potentials.{value_at, HasRoom, IsBelowTop, IsFeasible};
+ghost use Rattle.lego_level.specs.private.Searches.{reached_at, moved_to, IsTouched};
 
 use crate::constraint::Constraint;
 use crate::cycle::walk;
 use crate::draft::Draft;
 use crate::edges::Edges;
 use crate::least::lowest;
+use crate::limits::{MAX_SPREAD, MAX_VALUE, START};
 use crate::mend::{Closing, Outcome, mend};
-use crate::potential::{Potential, START};
+use crate::potential::Potential;
 use lego_term::List;
 use std::alloc::{AllocError, Global};
 use std::marker::Model;
@@ -35,14 +37,6 @@ impl From<AllocError> for InsertFault {
     }
 }
 
-/// The greatest least value that a variable may have.
-pub const MAX_VALUE: u64 = 1_000_000;
-
-/// How far the values of a potential may lie apart before a constraint is added. They start at
-/// 2^62, and one constraint moves them by little more than this, so they stay between 2^60 and
-/// 2^63.
-const WIDE: u64 = 1 << 60;
-
 /// Constraints that can be satisfied, and a potential that satisfies them.
 #[derive(Drop)]
 pub struct Solver {
@@ -53,7 +47,7 @@ pub struct Solver {
 impl Model for Solver {
     ghost use Rattle.std.specs.Prelude.{List};
     ghost use Rattle.lego_level.specs.declared.constraint.Constraint.{Constraint};
-    ghost use Rattle.lego_level.specs.Potentials.{value_at, IsFeasible, IsBelowTop};
+    ghost use Rattle.lego_level.specs.private.Potentials.{value_at, IsFeasible, IsBelowTop};
 
     ghost Value = { List Constraint };
 
@@ -70,6 +64,15 @@ impl Solver {
             edges: Edges::new(alloc),
             potential: Potential::new(alloc),
         }
+    }
+
+    /// The same constraints and values.
+    pub fn copy(&self, alloc: Global) -> Result<Solver, AllocError>
+        ensures { IfOk result (λ copy. copy ≡ self.now) }
+    {
+        let edges = self.edges.copy(alloc)?;
+        let potential = self.potential.copy(alloc)?;
+        Ok(Solver { edges, potential })
     }
 
     pub fn constraints(&self) -> &[Constraint]
@@ -91,6 +94,7 @@ impl Solver {
         ensures refused { IfErr result (IsInsertFault (self.old ++ added ∷ [])) }
         ensures unchanged { OnErr result (self.new ≡ self.old) }
     {
+        narrow(alloc, &self.edges, &mut self.potential)?;
         let (low, high) = self.potential.levels(added)?;
         if low <= high {
             self.edges.push(alloc, added)?;
@@ -150,22 +154,29 @@ impl Solver {
             Settled::Over(constraint, needed) => Ok(Some((constraint, needed))),
         }
     }
+}
 
-    /// Takes the least values for the potential where it has come to be so wide that a further
-    /// constraint might lead out of 64 bits. Where memory runs out, nothing is done.
-    pub fn narrow(&mut self, alloc: Global)
-        ensures { self.new ≡ self.old }
-    {
-        if self.potential.top - self.potential.zero <= WIDE {
-            return;
+/// Takes the least values for the potential where it has come to be so wide that a further
+/// constraint might lead out of 64 bits.
+fn narrow(alloc: Global, edges: &Edges, potential: &mut Potential) -> Result<(), AllocError>
+    requires feasible { IsFeasible (value_at potential.old) edges.now }
+    requires top { IsBelowTop potential.old }
+    ensures feasible { IsFeasible (value_at potential.new) edges.now }
+    ensures top { IsBelowTop potential.new }
+    ensures spread { OnOk result (potential.new.top ≤ potential.new.zero + MAX_SPREAD) }
+{
+    if potential.top - potential.zero <= MAX_SPREAD {
+        return Ok(());
+    }
+    let count = edges.count();
+    let draft = lowest(alloc, edges, potential, count)?;
+    match lay_out(alloc, &draft, count, MAX_SPREAD)? {
+        Settled::Within(least) => {
+            let is_narrow = least.top.saturating_sub(least.zero) <= MAX_SPREAD;
+            *potential = least;
+            if is_narrow { Ok(()) } else { Err(AllocError) }
         }
-        let count = self.edges.count();
-        let Ok(draft) = lowest(alloc, &self.edges, &self.potential, count) else {
-            return;
-        };
-        if let Ok(Settled::Within(potential)) = lay_out(alloc, &draft, count, WIDE) {
-            self.potential = potential;
-        }
+        Settled::Over(_, _) => Err(AllocError),
     }
 }
 
@@ -192,7 +203,7 @@ pub enum Settled {
 
 /// Lays least values out as a potential, in which the zero node has the value `START`.
 fn lay_out(alloc: Global, draft: &Draft, count: u32, limit: u64) -> Result<Settled, AllocError>
-    requires limit { limit ≤ 1152921504606846976 }
+    requires limit { limit ≤ MAX_SPREAD }
     requires above { (u : ℕ) → u < count → (reached_at draft.now None).value ≤ (reached_at draft.now (Some u)).value }
     ensures { IfOk result (IsSettled count limit (reached_at draft.now)) }
 {

@@ -8,7 +8,7 @@ use Rattle.lego_base.specs.Place.{behind}
 use Rattle.lego_base.specs.declared.place.Place.{Place}
 use Rattle.lego_lexer.specs.Bytes.{Gap, BeginsToken}
 use Rattle.lego_lexer.specs.Tokens.{Lexeme, Point, Placed, Reads, Refused, FaultAt, WithinLimits, AllWithinLimits, placed, placed_at, past, start}
-use Rattle.lego_lexer.specs.Scanned.{IsToken, IsTokenAt, IsFirst, IsNext, IsFault, point}
+use Rattle.lego_lexer.specs.private.Scanned.{IsToken, IsTokenAt, IsFirst, IsNext, IsFault, point}
 use Rattle.lego_lexer.specs.declared.token.Token.{Token}
 use Rattle.lego_lexer.specs.declared.token.LexFault.{LexFault}
 use Rattle.lego_lexer.specs.declared.tokens.Cursor.{Cursor}

@@ -3,6 +3,7 @@ pub mod SliceLemmas
 pub mod CommentLemmas
 pub mod GapLemmas
 pub mod CommandLemmas
+pub mod CutterLemmas
 pub mod TokenLemmas
 pub mod ScanLemmas
 pub mod LexLemmas
@@ -11,4 +12,8 @@ pub mod UniqueTokens
 pub mod UniqueCuts
 pub mod Ranges
 pub mod LastToken
+pub mod Fronts
+pub mod Started
+pub mod CutsExist
+pub mod ScriptsGoOn
 mod Sanity

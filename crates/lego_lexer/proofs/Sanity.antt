@@ -4,7 +4,7 @@ use Rattle.std.specs.Prelude.{codes}
 use Rattle.lego_base.specs.declared.place.Place.{Place}
 use Rattle.lego_lexer.specs.Bytes.{Gap}
 use Rattle.lego_lexer.specs.Tokens.{Name, Reads, Tokens, Refused, FaultAt, start}
-use Rattle.lego_lexer.specs.Commands.{Unbroken, IsCut}
+use Rattle.lego_lexer.specs.Commands.{Unbroken, First, Begins, IsCut}
 use Rattle.lego_lexer.specs.declared.token.LexFault.TheVariants.{BadByte, OpenComment}
 use Rattle.lego_lexer.specs.declared.token.Cut.TheVariants as Cut
 use Rattle.lego_lexer.proofs.TokenLemmas.{no_token_here}
@@ -51,13 +51,21 @@ open_comment = record {
 
 -- a `;` in a comment ends no command, and the comment belongs to the command
 commented : IsCut 0 (codes "(*;*)a(*;*);b") (Cut.Command 5 12)
-commented =
-    IsCut.command {gap = codes "(*;*)"} {body = codes "a(*;*)"} (codes "b") (Gap.comment {c = codes "(*;*)"} (record { begins = refl; ends = refl }) Gap.none)
-    (Unbroken.byte (λ e. omega arith) refl (Unbroken.comment {c = codes "(*;*)"} (record { begins = refl; ends = refl }) Unbroken.none))
-    (record { no_blank = refl; no_comment = refl }) (omega arith)
+commented = record {
+  first = First.Command (codes "(*;*)") (codes "a(*;*)") (codes "b");
+  begins =
+      Begins.command {gap = codes "(*;*)"} {body = codes "a(*;*)"} {bytes = codes "b"} (Gap.comment {c = codes "(*;*)"} (record { begins = refl; ends = refl }) Gap.none)
+      (Unbroken.byte (λ e. omega arith) refl (Unbroken.comment {c = codes "(*;*)"} (record { begins = refl; ends = refl }) Unbroken.none))
+      (record { no_blank = refl; no_comment = refl });
+  is = refl;
+}
 
 unended : IsCut 9 (codes "[B:A") (Cut.Unended 9)
-unended =
-    IsCut.unended {gap = []} {body = codes "[B:A"} Gap.none
-    (Unbroken.byte (λ e. omega arith) refl (Unbroken.byte (λ e. omega arith) refl (Unbroken.byte (λ e. omega arith) refl (Unbroken.byte (λ e. omega arith) refl Unbroken.none))))
-    (record { no_blank = refl; no_comment = refl })
+unended = record {
+  first = First.Unended [];
+  begins =
+      Begins.unended {gap = []} {body = codes "[B:A"} Gap.none
+      (Unbroken.byte (λ e. omega arith) refl (Unbroken.byte (λ e. omega arith) refl (Unbroken.byte (λ e. omega arith) refl (Unbroken.byte (λ e. omega arith) refl Unbroken.none))))
+      (record { no_blank = refl; no_comment = refl });
+  is = refl;
+}

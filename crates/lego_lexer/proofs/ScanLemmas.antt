@@ -6,7 +6,7 @@ use Rattle.std.proofs.lemmas.List.Folds.{drop_split}
 use Rattle.lego_base.specs.declared.place.Place.{Place}
 use Rattle.lego_lexer.specs.Bytes.{is_digit, begins_name, goes_on_in_name, begins_with, BeginsToken}
 use Rattle.lego_lexer.specs.Tokens.{Lexeme, Name, Number, OfSymbol, word_text, words, symbol_text, symbols, written_as, has_name_form, has_number_form, number_value, token_of, IsLongest, FaultAt}
-use Rattle.lego_lexer.specs.Scanned.{IsRunEnd}
+use Rattle.lego_lexer.specs.private.Scanned.{IsRunEnd}
 use Rattle.lego_lexer.specs.declared.token.Symbol.{Symbol}
 use Rattle.lego_lexer.specs.declared.token.Symbol.TheVariants.{Arrow}
 use Rattle.lego_lexer.specs.declared.token.LexFault.TheVariants.{BadByte, LongName, BigLevel}

@@ -1,5 +1,5 @@
 -- Ranges of bytes.
-use Rattle.std.proofs.Common.{◌≡◌, ℕ, ◌+◌, ◌-◌, ◌<◌, ◌≤◌, suc, List, [], ◌∷◌, ◌++◌, length, get_or, take, drop, refl, sym, ap, ◌∙◌, arith, add-one, drop-cons, length-drop, length-take}
+use Rattle.std.proofs.Common.{◌≡◌, ℕ, ◌+◌, ◌-◌, ◌<◌, ◌≤◌, suc, List, [], ◌∷◌, ◌++◌, length, get_or, take, drop, refl, sym, ap, ◌∙◌, arith, add-one, append_assoc, drop-cons, length-drop, length-take}
 use Rattle.std.specs.Prelude.{slice_range}
 use Rattle.std.proofs.lemmas.List.{drop-drop, take_all}
 use Rattle.std.proofs.Math.Seq.{take-add}
@@ -25,3 +25,10 @@ slice_join xs i j k h m =
 
 pub slice_length : (xs : List ℕ) (i j : ℕ) → i ≤ j → j ≤ length xs → i + length (slice_range xs i j) ≡ j
 slice_length xs i j h m = omega (arith, length-take (j - i) (drop i xs), length-drop i xs)
+
+-- one more byte of a front
+pub take_next : (xs : List ℕ) (i : ℕ) → i < length xs → take (i + 1) xs ≡ take i xs ++ get_or xs i 0 ∷ []
+take_next xs i h = take-add i 1 xs ∙ ap (λ ys. take i xs ++ take 1 ys) (drop-cons xs i 0 h)
+
+pub front_next : (bytes xs : List ℕ) (i : ℕ) → i < length xs → (bytes ++ take i xs) ++ get_or xs i 0 ∷ [] ≡ bytes ++ take (i + 1) xs
+front_next bytes xs i h = append_assoc bytes (take i xs) (get_or xs i 0 ∷ []) ∙ ap (λ ys. bytes ++ ys) (sym (take_next xs i h))

@@ -1,15 +1,12 @@
 -- The cuts of bytes are unique.
-use Rattle.std.proofs.Common.{◌≡◌, ◌≢◌, ℕ, ◌+◌, ◌<◌, ◌≤◌, true, false, ◌&&◌, nat_eq, nat_lt, if◌then◌else◌, List, [], ◌∷◌, ◌++◌, length, refl, sym, ap, ◌∙◌, subst, arith, append_assoc}
+use Rattle.std.proofs.Common.{◌≡◌, ◌≢◌, ℕ, true, false, ◌&&◌, nat_eq, List, [], ◌∷◌, ◌++◌, refl, sym, ap, ◌∙◌, subst, append_assoc}
 use Rattle.std.proofs.lemmas.List.{append_cancel_right, append-nil}
-use Rattle.std.proofs.lemmas.Bool.Decides.{nat_tests}
 use mathlib.Core.Bool.{true≢false}
 use Rattle.lego_base.specs.Place.{behind}
 use Rattle.lego_base.specs.declared.place.Place.{Place}
 use Rattle.lego_lexer.specs.Bytes.{begins_comment, Gap, IsComment, IsOpenComment, BeginsToken}
-use Rattle.lego_lexer.specs.Commands.{Unbroken, IsCut, Cuts, CommandText, Ending}
+use Rattle.lego_lexer.specs.Commands.{Unbroken, First, Begins, cut_of, Cuts, CommandText, Ending}
 use Rattle.lego_lexer.specs.Laws.{CutsAreUnique, ScriptsAreUnique}
-use Rattle.lego_lexer.specs.declared.token.Cut as Code
-use Rattle.lego_lexer.specs.declared.token.Cut.TheVariants as Cut
 use Rattle.lego_lexer.proofs.TokenLemmas.{and_false, test_equal}
 use Rattle.lego_lexer.proofs.CommandLemmas.{gap_then, gap_unbroken}
 use Rattle.lego_lexer.proofs.UniqueGaps.{due_end, due_token, due_open, same_gap, same_comment, begins_before}
@@ -74,25 +71,6 @@ same_unbroken (Unbroken.comment {c = c} {bytes = bytes} h k) (Unbroken.comment {
     let t = same_unbroken k j r s p q first.1 in
     (rw (first.0, t.0) refl, t.1)
 
--- what bytes begin with
-data Shape : List ℕ → Type 0 where
-  blank : {gap : List ℕ} → Gap gap → Shape gap
-  unended : {gap body : List ℕ} → Gap gap → Unbroken body → BeginsToken body → Shape (gap ++ body)
-  open_comment : {body comment : List ℕ} → Unbroken body → IsOpenComment comment → Shape (body ++ comment)
-  command : {gap body : List ℕ} (bytes : List ℕ) → Gap gap → Unbroken body → BeginsToken (body ++ 59 ∷ bytes) → Shape (gap ++ body ++ 59 ∷ bytes)
-
--- its parts
-data Part : Type 0 where
-  Blank : Part
-  Unended Open : List ℕ → Part
-  Command : List ℕ → List ℕ → List ℕ → Part
-
-abbrev part_of : {xs : List ℕ} → Shape xs → Part
-part_of (Shape.blank g) = Part.Blank
-part_of (Shape.unended {gap = g} p u b) = Part.Unended g
-part_of (Shape.open_comment {body = b} u o) = Part.Open b
-part_of (Shape.command {gap = g} {body = b} bytes p u t) = Part.Command g b bytes
-
 -- the unbroken front, and the rest
 record Fronts (xs front rest : List ℕ) : Type 0 where
   pub unbroken : Unbroken front
@@ -130,27 +108,27 @@ end_no_semicolon bytes e = cc
 blank_no_token : {g h : List ℕ} (body : List ℕ) → Gap g → Gap h → BeginsToken body → g ≡ h ++ body → ⊥
 blank_no_token {g} {h} body p q b e = begins_nothing (subst BeginsToken (sym (same_gap p q [] body due_end (due_token body b) (append-nil g ∙ e)).1) b)
 
-same_part : {xs ys : List ℕ} (p : Shape xs) (q : Shape ys) → xs ≡ ys → part_of p ≡ part_of q
-same_part (Shape.blank g) (Shape.blank h) e = refl
-same_part (Shape.blank g) (Shape.unended {body = v} h u b) e = absurd (blank_no_token v g h b e)
-same_part (Shape.blank g) (Shape.open_comment {comment = c} u o) e = absurd (open_not_end c o (same_fronts _ _ _ _ _ _ (blank_fronts g) (open_fronts c u o) e).1)
-same_part (Shape.blank g) (Shape.command {body = v} more h u b) e = absurd (end_no_semicolon more (same_fronts _ _ _ _ _ _ (blank_fronts g) (command_fronts v more h u) e).1)
-same_part (Shape.unended {body = v} h u b) (Shape.blank g) e = absurd (blank_no_token v g h b (sym e))
-same_part (Shape.unended {gap = g} {body = v} p u b) (Shape.unended {gap = h} {body = w} q k c) e =
-    ap Part.Unended (same_gap p q v w (due_token v b) (due_token w c) e).0
-same_part (Shape.unended {body = v} p u b) (Shape.open_comment {comment = c} k o) e = absurd (open_not_end c o (same_fronts _ _ _ _ _ _ (unended_fronts v p u) (open_fronts c k o) e).1)
-same_part (Shape.unended {body = v} p u b) (Shape.command {body = w} more q k c) e = absurd (end_no_semicolon more (same_fronts _ _ _ _ _ _ (unended_fronts v p u) (command_fronts w more q k) e).1)
-same_part (Shape.open_comment {comment = c} u o) (Shape.blank g) e = absurd (open_not_end c o (sym (same_fronts _ _ _ _ _ _ (open_fronts c u o) (blank_fronts g) e).1))
-same_part (Shape.open_comment {comment = c} u o) (Shape.unended {body = v} q k b) e = absurd (open_not_end c o (sym (same_fronts _ _ _ _ _ _ (open_fronts c u o) (unended_fronts v q k) e).1))
-same_part (Shape.open_comment {comment = c} u o) (Shape.open_comment {comment = d} k i) e = ap Part.Open (same_fronts _ _ _ _ _ _ (open_fronts c u o) (open_fronts d k i) e).0
-same_part (Shape.open_comment {comment = c} u o) (Shape.command {body = w} more q k b) e =
+pub same_first : {xs ys : List ℕ} {f g : First} → Begins xs f → Begins ys g → xs ≡ ys → f ≡ g
+same_first (Begins.blank g) (Begins.blank h) e = refl
+same_first (Begins.blank g) (Begins.unended {body = v} h u b) e = absurd (blank_no_token v g h b e)
+same_first (Begins.blank g) (Begins.open_comment {comment = c} u o) e = absurd (open_not_end c o (same_fronts _ _ _ _ _ _ (blank_fronts g) (open_fronts c u o) e).1)
+same_first (Begins.blank g) (Begins.command {body = v} {bytes = more} h u b) e = absurd (end_no_semicolon more (same_fronts _ _ _ _ _ _ (blank_fronts g) (command_fronts v more h u) e).1)
+same_first (Begins.unended {body = v} h u b) (Begins.blank g) e = absurd (blank_no_token v g h b (sym e))
+same_first (Begins.unended {gap = g} {body = v} p u b) (Begins.unended {gap = h} {body = w} q k c) e =
+    ap First.Unended (same_gap p q v w (due_token v b) (due_token w c) e).0
+same_first (Begins.unended {body = v} p u b) (Begins.open_comment {comment = c} k o) e = absurd (open_not_end c o (same_fronts _ _ _ _ _ _ (unended_fronts v p u) (open_fronts c k o) e).1)
+same_first (Begins.unended {body = v} p u b) (Begins.command {body = w} {bytes = more} q k c) e = absurd (end_no_semicolon more (same_fronts _ _ _ _ _ _ (unended_fronts v p u) (command_fronts w more q k) e).1)
+same_first (Begins.open_comment {comment = c} u o) (Begins.blank g) e = absurd (open_not_end c o (sym (same_fronts _ _ _ _ _ _ (open_fronts c u o) (blank_fronts g) e).1))
+same_first (Begins.open_comment {comment = c} u o) (Begins.unended {body = v} q k b) e = absurd (open_not_end c o (sym (same_fronts _ _ _ _ _ _ (open_fronts c u o) (unended_fronts v q k) e).1))
+same_first (Begins.open_comment {comment = c} u o) (Begins.open_comment {comment = d} k i) e = ap First.OpenComment (same_fronts _ _ _ _ _ _ (open_fronts c u o) (open_fronts d k i) e).0
+same_first (Begins.open_comment {comment = c} u o) (Begins.command {body = w} {bytes = more} q k b) e =
     absurd (open_no_semicolon c more o (sym (same_fronts _ _ _ _ _ _ (open_fronts c u o) (command_fronts w more q k) e).1))
-same_part (Shape.command {body = v} bytes p u b) (Shape.blank g) e = absurd (end_no_semicolon bytes (sym (same_fronts _ _ _ _ _ _ (command_fronts v bytes p u) (blank_fronts g) e).1))
-same_part (Shape.command {body = v} bytes p u b) (Shape.unended {body = w} q k c) e =
+same_first (Begins.command {body = v} {bytes = bytes} p u b) (Begins.blank g) e = absurd (end_no_semicolon bytes (sym (same_fronts _ _ _ _ _ _ (command_fronts v bytes p u) (blank_fronts g) e).1))
+same_first (Begins.command {body = v} {bytes = bytes} p u b) (Begins.unended {body = w} q k c) e =
     absurd (end_no_semicolon bytes (sym (same_fronts _ _ _ _ _ _ (command_fronts v bytes p u) (unended_fronts w q k) e).1))
-same_part (Shape.command {body = v} bytes p u b) (Shape.open_comment {comment = d} k o) e =
+same_first (Begins.command {body = v} {bytes = bytes} p u b) (Begins.open_comment {comment = d} k o) e =
     absurd (open_no_semicolon d bytes o (same_fronts _ _ _ _ _ _ (command_fronts v bytes p u) (open_fronts d k o) e).1)
-same_part (Shape.command {gap = g} {body = v} bytes p u b) (Shape.command {gap = h} {body = w} more q k c) e =
+same_first (Begins.command {gap = g} {body = v} {bytes = bytes} p u b) (Begins.command {gap = h} {body = w} {bytes = more} q k c) e =
     let rests : bytes ≡ more = tails bytes more (same_fronts _ _ _ _ _ _ (command_fronts v bytes p u) (command_fronts w more q k) e).1 in
     let gaps = same_gap p q (v ++ 59 ∷ bytes) (w ++ 59 ∷ more) (due_token (v ++ 59 ∷ bytes) b) (due_token (w ++ 59 ∷ more) c)
     (sym (append_assoc g v (59 ∷ bytes)) ∙ (e ∙ append_assoc h w (59 ∷ more))) in
@@ -160,47 +138,24 @@ same_part (Shape.command {gap = g} {body = v} bytes p u b) (Shape.command {gap =
     tails : (xs ys : List ℕ) → 59 ∷ xs ≡ 59 ∷ ys → xs ≡ ys
     tails xs ys e = cc
 
-    commands_same : (g h v w xs ys : List ℕ) → g ≡ h → v ≡ w → xs ≡ ys → Part.Command g v xs ≡ Part.Command h w ys
+    commands_same : (g h v w xs ys : List ℕ) → g ≡ h → v ≡ w → xs ≡ ys → First.Command g v xs ≡ First.Command h w ys
     commands_same g h v w xs ys e f i = rw (e, f, i) refl
 
--- a cut is told by the parts
-abbrev shape_of_cut : {from : ℕ} {xs : List ℕ} {c : Code.Cut} → IsCut from xs c → Shape xs
-shape_of_cut (IsCut.blank g) = Shape.blank g
-shape_of_cut (IsCut.unended g u b) = Shape.unended g u b
-shape_of_cut (IsCut.open_comment u o) = Shape.open_comment u o
-shape_of_cut (IsCut.command bytes g u b h) = Shape.command bytes g u b
-shape_of_cut (IsCut.long_command bytes g u b h) = Shape.command bytes g u b
-
-abbrev cut_of : ℕ → Part → Code.Cut
-cut_of from Part.Blank = Cut.Blank
-cut_of from (Part.Unended g) = Cut.Unended (from + length g)
-cut_of from (Part.Open b) = Cut.OpenComment (from + length b)
-cut_of from (Part.Command g b bytes) =
-    if nat_lt (length b) 65536 then Cut.Command (from + length g) (from + length g + length b + 1)
-    else Cut.LongCommand (from + length g) (from + length g + length b + 1)
-
-below_test : (n : ℕ) → n < 65536 → nat_lt n 65536 ≡ true
-below_test n h = grind (arith, nat_tests)
-
-above_test : (n : ℕ) → 65536 ≤ n → nat_lt n 65536 ≡ false
-above_test n h = grind (arith, nat_tests)
-
-cut_told : {from : ℕ} {xs : List ℕ} {c : Code.Cut} (p : IsCut from xs c) → c ≡ cut_of from (part_of (shape_of_cut p))
-cut_told (IsCut.blank g) = refl
-cut_told (IsCut.unended g u b) = refl
-cut_told (IsCut.open_comment u o) = refl
-cut_told (IsCut.command {body = v} bytes g u b h) = rw (below_test (length v) h) refl
-cut_told (IsCut.long_command {body = v} bytes g u b h) = rw (above_test (length v) h) refl
-
 pub cuts_unique : CutsAreUnique
-cuts_unique from bytes one other p q = cut_told p ∙ (ap (cut_of from) (same_part (shape_of_cut p) (shape_of_cut q) refl) ∙ sym (cut_told q))
+cuts_unique from bytes one other p q = p.is ∙ (ap (cut_of from) (same_first p.begins q.begins refl) ∙ sym q.is)
 
--- the parts that a script begins with
-abbrev shape_of_script : {p : Place} {xs : List ℕ} {cs : List CommandText} {e : Ending} → Cuts p xs cs e → Shape xs
-shape_of_script (Cuts.whole g) = Shape.blank g
-shape_of_script (Cuts.unended g u b) = Shape.unended g u b
-shape_of_script (Cuts.open_comment u o) = Shape.open_comment u o
-shape_of_script (Cuts.command {bytes = bytes} g u b more) = Shape.command bytes g u b
+-- what a script begins with
+abbrev first_of : {p : Place} {xs : List ℕ} {cs : List CommandText} {e : Ending} → Cuts p xs cs e → First
+first_of (Cuts.whole b) = First.Blank
+first_of (Cuts.unended {gap = g} b) = First.Unended g
+first_of (Cuts.open_comment {front = f} b) = First.OpenComment f
+first_of (Cuts.command {gap = g} {body = v} {rest = r} b more) = First.Command g v r
+
+begins_of : {p : Place} {xs : List ℕ} {cs : List CommandText} {e : Ending} (c : Cuts p xs cs e) → Begins xs (first_of c)
+begins_of (Cuts.whole b) = b
+begins_of (Cuts.unended b) = b
+begins_of (Cuts.open_comment b) = b
+begins_of (Cuts.command b more) = b
 
 behind_same : (p q : Place) (x y : List ℕ) → p ≡ q → x ≡ y → behind p x ≡ behind q y
 behind_same p q x y e f = rw (e, f) refl
@@ -211,29 +166,29 @@ the_command p bytes = record { place = p; bytes = bytes }
 command_same : (p q : Place) (v w : List ℕ) (cs ds : List CommandText) → p ≡ q → v ≡ w → cs ≡ ds → the_command p v ∷ cs ≡ the_command q w ∷ ds
 command_same p q v w cs ds e f g = rw (e, f, g) refl
 
-unended_part : (g h : List ℕ) → Part.Unended g ≡ Part.Unended h → g ≡ h
+unended_part : (g h : List ℕ) → First.Unended g ≡ First.Unended h → g ≡ h
 unended_part g h e = cc
 
-open_part : (g h : List ℕ) → Part.Open g ≡ Part.Open h → g ≡ h
+open_part : (g h : List ℕ) → First.OpenComment g ≡ First.OpenComment h → g ≡ h
 open_part g h e = cc
 
-command_part : (g h v w x y : List ℕ) → Part.Command g v x ≡ Part.Command h w y → (g ≡ h) × (v ≡ w) × (x ≡ y)
+command_part : (g h v w x y : List ℕ) → First.Command g v x ≡ First.Command h w y → (g ≡ h) × (v ≡ w) × (x ≡ y)
 command_part g h v w x y e = (cc, cc, cc)
 
 scripts_same : {p q : Place} {xs ys : List ℕ} {cs ds : List CommandText} {e f : Ending} → Cuts p xs cs e → Cuts q ys ds f → p ≡ q → xs ≡ ys → (cs ≡ ds) × (e ≡ f)
 scripts_same (Cuts.whole a) (Cuts.whole b) h k = (refl, refl)
-scripts_same {p} {q} (Cuts.unended {gap = g} a u b) (Cuts.unended {gap = i} c v d) h k =
-    (refl, ap Ending.Unended (behind_same p q g i h (unended_part g i (same_part (Shape.unended a u b) (Shape.unended c v d) k))))
-scripts_same {p} {q} (Cuts.open_comment {body = b} u o) (Cuts.open_comment {body = c} v i) h k =
-    (refl, ap Ending.OpenComment (behind_same p q b c h (open_part b c (same_part (Shape.open_comment u o) (Shape.open_comment v i) k))))
-scripts_same {p} {q} (Cuts.command {gap = g} {body = v} {bytes = x} {commands = cs} a u b more) (Cuts.command {gap = i} {body = w} {bytes = y} {commands = ds} c t d rest) h k =
-    let parts = command_part g i v w x y (same_part (Shape.command x a u b) (Shape.command y c t d) k) in
+scripts_same {p} {q} (Cuts.unended {gap = g} a) (Cuts.unended {gap = i} b) h k =
+    (refl, ap Ending.Unended (behind_same p q g i h (unended_part g i (same_first a b k))))
+scripts_same {p} {q} (Cuts.open_comment {front = b} a) (Cuts.open_comment {front = c} d) h k =
+    (refl, ap Ending.OpenComment (behind_same p q b c h (open_part b c (same_first a d k))))
+scripts_same {p} {q} (Cuts.command {gap = g} {body = v} {rest = x} {commands = cs} a more) (Cuts.command {gap = i} {body = w} {rest = y} {commands = ds} b others) h k =
+    let parts = command_part g i v w x y (same_first a b k) in
     let texts : v ++ 59 ∷ [] ≡ w ++ 59 ∷ [] = ap (λ zs. zs ++ 59 ∷ []) parts.1 in
     let fronts : g ++ v ++ 59 ∷ [] ≡ i ++ w ++ 59 ∷ [] = ap (λ zs. zs ++ v ++ 59 ∷ []) parts.0 ∙ ap (λ zs. i ++ zs ++ 59 ∷ []) parts.1 in
-    let tails = scripts_same more rest (behind_same p q (g ++ v ++ 59 ∷ []) (i ++ w ++ 59 ∷ []) h fronts) parts.2 in
+    let tails = scripts_same more others (behind_same p q (g ++ v ++ 59 ∷ []) (i ++ w ++ 59 ∷ []) h fronts) parts.2 in
     (command_same (behind p g) (behind q i) (v ++ 59 ∷ []) (w ++ 59 ∷ []) cs ds (behind_same p q g i h parts.0) texts tails.0, tails.1)
 scripts_same a b h k =
-    let parts : part_of (shape_of_script a) ≡ part_of (shape_of_script b) = same_part (shape_of_script a) (shape_of_script b) k in
+    let parts : first_of a ≡ first_of b = same_first (begins_of a) (begins_of b) k in
     absurd (cc)
 
 pub scripts_unique : ScriptsAreUnique

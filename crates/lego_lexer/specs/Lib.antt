@@ -1,5 +1,6 @@
 pub mod Bytes
 pub mod Tokens
 pub mod Commands
-pub mod Scanned
+pub mod private
+pub mod Cutter
 pub mod Laws

@@ -4,7 +4,9 @@ use Rattle.std.specs.List.{list_all}
 use Rattle.lego_base.specs.Names.{same_text}
 use Rattle.lego_base.specs.Place.{behind}
 use Rattle.lego_base.specs.declared.place.Place.{Place}
+use Rattle.lego_base.specs.declared.limits.TheConstants.{MAX_NAME}
 use Rattle.lego_lexer.specs.Bytes.{is_digit, begins_name, goes_on_in_name, Gap, BeginsToken, IsOpenComment}
+use Rattle.lego_lexer.specs.declared.limits.TheConstants.{MAX_NUMERAL}
 use Rattle.lego_lexer.specs.declared.token.Word.{Word}
 use Rattle.lego_lexer.specs.declared.token.Word.TheVariants.{Prop, AnyType, Goal, Intros, Refine, Claim, Next, Assumption, Equiv, Save, KillRef, Undo, Forget, Discharge, Prf, Ctxt, Hnf, Normal, Explicit, Implicit, Module, Import}
 use Rattle.lego_lexer.specs.declared.token.Symbol.{Symbol}
@@ -150,10 +152,10 @@ pub record Tokens (place : Place) (bytes : List ℕ) (tokens : List Placed) : Ty
   pub reads : Reads (start place) bytes tokens end gap
   pub blank : Gap gap
 
--- a name has at most 255 bytes, and a numeral is at most 1,000,000
+-- a name has few bytes, and a numeral is small
 abbrev pub WithinLimits : Lexeme → Type 0
-WithinLimits (Name text) = length text ≤ 255
-WithinLimits (Number n) = n ≤ 1000000
+WithinLimits (Name text) = length text ≤ MAX_NAME
+WithinLimits (Number n) = n ≤ MAX_NUMERAL
 WithinLimits (OfWord w) = Unit {0}
 WithinLimits (OfSymbol s) = Unit {0}
 
@@ -164,9 +166,9 @@ AllWithinLimits tokens = All (λ t. WithinLimits t.lexeme) tokens
 pub data FaultAt (place : Place) : List ℕ → LexFault → Type 0 where
   bad_byte : {b : ℕ} {bytes : List ℕ} → BeginsToken (b ∷ bytes) → NoToken (b ∷ bytes) → FaultAt place (b ∷ bytes) (BadByte place b)
   open_comment : {bytes : List ℕ} → IsOpenComment bytes → FaultAt place bytes (OpenComment place)
-  long_name : {text bytes : List ℕ} → BeginsToken (text ++ bytes) → IsLongest text bytes (Name text) → 255 < length text
+  long_name : {text bytes : List ℕ} → BeginsToken (text ++ bytes) → IsLongest text bytes (Name text) → MAX_NAME < length text
       → FaultAt place (text ++ bytes) (LongName place)
-  big_level : {text bytes : List ℕ} {n : ℕ} → BeginsToken (text ++ bytes) → IsLongest text bytes (Number n) → 1000000 < n
+  big_level : {text bytes : List ℕ} {n : ℕ} → BeginsToken (text ++ bytes) → IsLongest text bytes (Number n) → MAX_NUMERAL < n
       → FaultAt place (text ++ bytes) (BigLevel place)
 
 -- the bytes, which begin at a place, are refused so: behind tokens within the limits, and a gap

@@ -1,7 +1,7 @@
 //! Blanks and comments, which separate tokens and have no other meaning.
 ghost use Rattle.std.specs.Prelude.{◌≡◌, ◌<◌, ◌≤◌, option_map, drop, length, MatchOption};
 ghost use Rattle.lego_lexer.specs.Bytes.{is_blank, begins_with, begins_comment, behind_comments, delimiter};
-ghost use Rattle.lego_lexer.specs.Scanned.{IsGapEnd};
+ghost use Rattle.lego_lexer.specs.private.Scanned.{IsGapEnd};
 
 /// Where a walk over bytes ends.
 #[derive(Clone, Copy)]
@@ -16,7 +16,7 @@ pub enum Stop {
 
 /// What two bytes are to comments.
 #[derive(Clone, Copy)]
-enum Delimiter {
+pub enum Delimiter {
     /// `(*`.
     Opens,
     /// `*)`.
@@ -24,7 +24,8 @@ enum Delimiter {
     Neither,
 }
 
-fn delimiter_of(first: u8, second: u8) -> Delimiter
+/// What two bytes are to comments.
+pub fn delimiter_of(first: u8, second: u8) -> Delimiter
     ensures { result ≡ delimiter first second }
 {
     match (first, second) {
@@ -34,7 +35,8 @@ fn delimiter_of(first: u8, second: u8) -> Delimiter
     }
 }
 
-fn is_blank(byte: u8) -> bool
+/// Whether a byte is a blank.
+pub fn is_blank(byte: u8) -> bool
     ensures { result ≡ is_blank byte }
 {
     byte == b' ' || byte == b'\t' || byte == b'\r' || byte == b'\n'

@@ -1,5 +1,5 @@
 //! Laws of the definitions, as contracts of functions that do nothing.
-ghost use Rattle.lego_lexer.specs.Laws.{TokensAreUnique, FaultsAreUnique, FaultsExcludeTokens, CutsAreUnique, ScriptsAreUnique};
+ghost use Rattle.lego_lexer.specs.Laws.{TokensAreUnique, FaultsAreUnique, FaultsExcludeTokens, CutsAreUnique, ScriptsAreUnique, ScriptsAreCut, ScriptsGoOn, FrontsStay};
 
 /// Bytes at a place have at most one list of tokens, and at most one first fault, and not both
 /// tokens within the limits and a fault.
@@ -13,4 +13,12 @@ pub fn tokens_are_unique()
 pub fn cuts_are_unique()
     ensures cuts { CutsAreUnique }
     ensures scripts { ScriptsAreUnique }
+{}
+
+/// Each script is cut into commands: what stands first, and the commands behind it. Commands that
+/// have ended in a front of a script are the first of its commands.
+pub fn scripts_are_cut()
+    ensures some { ScriptsAreCut }
+    ensures on { ScriptsGoOn }
+    ensures fronts { FrontsStay }
 {}

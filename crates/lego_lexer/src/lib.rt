@@ -3,15 +3,17 @@
 
 mod commands;
 mod comment;
+mod cutter;
 mod laws;
+mod limits;
 mod scan;
 mod spelling;
 mod token;
 mod tokens;
 
 pub use commands::cut;
+pub use cutter::{Cutter, Fed};
+pub use laws::{cuts_are_unique, scripts_are_cut, tokens_are_unique};
+pub use limits::{MAX_COMMAND, MAX_NUMERAL};
 pub use token::{Cut, LexFault, Symbol, Token, TokenKind, Word};
 pub use tokens::lex;
-
-#[cfg(test)]
-mod tests;

@@ -2,18 +2,13 @@
 ghost use Rattle.std.specs.Prelude.{◌≡◌, ◌<◌, ◌≤◌, ◌+◌, drop, length, min, slice_index, IsTrue, IsFalse, MatchResult};
 ghost use Rattle.lego_lexer.specs.Bytes.{begins_name, goes_on_in_name, is_digit, BeginsToken};
 ghost use Rattle.lego_lexer.specs.Tokens.{FaultAt, number_value};
-ghost use Rattle.lego_lexer.specs.Scanned.{IsRunEnd, IsScanned};
+ghost use Rattle.lego_lexer.specs.private.Scanned.{IsRunEnd, IsScanned};
 
 use crate::comment::begins_with;
+use crate::limits::MAX_NUMERAL;
 use crate::spelling::{symbol, word};
 use crate::token::{LexFault, Symbol, TokenKind};
-use lego_base::Place;
-
-/// The most bytes of a name.
-const MAX_NAME: usize = 255;
-
-/// The greatest numeral.
-const MAX_NUMBER: u32 = 1_000_000;
+use lego_base::{MAX_NAME, Place};
 
 /// A token of bytes, and the index behind it.
 #[derive(Clone, Copy)]
@@ -95,7 +90,7 @@ fn scan_number(bytes: &[u8], at: usize, place: Place) -> Result<Scanned, LexFaul
 {
     let to = number_end(bytes, at);
     let value = number_value(&bytes[at..to]);
-    if value > MAX_NUMBER {
+    if value > MAX_NUMERAL {
         return Err(LexFault::BigLevel { place });
     }
     let kind = TokenKind::Number(value);
@@ -115,12 +110,12 @@ fn number_end(bytes: &[u8], at: usize) -> usize
 
 /// The value of digits, or a greater number than the greatest numeral.
 fn number_value(digits: &[u8]) -> u32
-    ensures { result ≡ min (number_value digits.now) 1000001 }
+    ensures { result ≡ min (number_value digits.now) (MAX_NUMERAL + 1) }
 {
     let mut value = 0;
     for digit in digits {
         let digit = u32::from(digit.saturating_sub(b'0'));
-        value = (10 * value + digit).min(MAX_NUMBER + 1);
+        value = (10 * value + digit).min(MAX_NUMERAL + 1);
     }
     value
 }

@@ -3,21 +3,21 @@ ghost use Rattle.std.specs.Prelude.{◌≡◌, ◌≤◌, ◌<◌, ◌⊎◌, dr
 ghost use Rattle.lego_base.specs.Place.{behind};
 ghost use Rattle.lego_lexer.specs.Bytes.{BeginsToken};
 ghost use Rattle.lego_lexer.specs.Tokens.{Tokens, Refused, FaultAt, AllWithinLimits, placed};
-ghost use Rattle.lego_lexer.specs.Scanned.{HasRoom, IsTokenAt, IsNext, IsFault};
+ghost use Rattle.lego_lexer.specs.private.Scanned.{HasRoom, IsTokenAt, IsNext, IsFault};
 
 use crate::comment::{Stop, gap_end};
 use crate::scan::scan;
 use crate::token::{LexFault, Token};
-use lego_base::Place;
+use lego_base::{MAX_PLACE, MAX_SCRIPT, Place};
 use std::alloc::Global;
 
 /// The tokens of bytes that begin at a place, each the longest, with their exact places.
 /// The first fault refuses all: a byte that begins no token, a comment without an end, a name of
 /// more than 255 bytes, a numeral above 1,000,000. The time is linear in the bytes.
 pub fn lex(alloc: Global, bytes: &[u8], place: Place) -> Result<Vec<Token>, LexFault>
-    requires line { place.line ≤ 33554433 }
-    requires column { place.column ≤ 33554433 }
-    requires bytes { length bytes.now ≤ 16777216 }
+    requires line { place.line ≤ MAX_PLACE }
+    requires column { place.column ≤ MAX_PLACE }
+    requires bytes { length bytes.now ≤ MAX_SCRIPT }
     ensures tokens { IfOk result (λ tokens. Tokens place bytes.now (map (placed bytes.now) tokens.items)) }
     ensures limits { IfOk result (λ tokens. AllWithinLimits (map (placed bytes.now) tokens.items)) }
     ensures refused { IfErr result (λ fault. (fault ≡ LexFault.Memory) ⊎ Refused place bytes.now fault) }
@@ -44,22 +44,12 @@ impl Cursor {
         requires after { self.index ≤ to }
         requires within { to ≤ length bytes.now }
         requires room { HasRoom self }
-        requires bytes { length bytes.now ≤ 16777216 }
+        requires bytes { length bytes.now ≤ MAX_SCRIPT }
         ensures index { result.index ≡ to }
         ensures place { result.place ≡ behind self.place (slice_range bytes.now self.index to) }
         ensures room { HasRoom result }
     {
-        let mut line = self.place.line;
-        let mut column = self.place.column;
-        for byte in &bytes[self.index..to] {
-            if *byte == b'\n' {
-                line += 1;
-                column = 1;
-            } else {
-                column += 1;
-            }
-        }
-        let place = Place { line, column };
+        let place = self.place.behind(&bytes[self.index..to]);
         Cursor { place, index: to }
     }
 }
@@ -75,7 +65,7 @@ struct Next {
 fn next_token(bytes: &[u8], from: Cursor) -> Result<Option<Next>, LexFault>
     requires within { from.index ≤ length bytes.now }
     requires room { HasRoom from }
-    requires bytes { length bytes.now ≤ 16777216 }
+    requires bytes { length bytes.now ≤ MAX_SCRIPT }
     ensures { MatchResult result (IsNext bytes.now from) (IsFault bytes.now from) }
 {
     match gap_end(bytes, from.index) {
@@ -93,7 +83,7 @@ fn token_at(bytes: &[u8], at: Cursor) -> Result<Option<Next>, LexFault>
     requires within { at.index < length bytes.now }
     requires begins { BeginsToken (drop at.index bytes.now) }
     requires room { HasRoom at }
-    requires bytes { length bytes.now ≤ 16777216 }
+    requires bytes { length bytes.now ≤ MAX_SCRIPT }
     ensures { MatchResult result (IsTokenAt bytes.now at) (FaultAt at.place (drop at.index bytes.now)) }
 {
     let scanned = scan(bytes, at.index, at.place)?;

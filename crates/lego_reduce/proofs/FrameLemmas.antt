@@ -1,8 +1,8 @@
 -- Head steps within frames.
-use Rattle.std.proofs.Common.{◌≡◌, ℕ, ◌≤◌, Option, Some, None, List, [], ◌∷◌, ◌++◌, take, drop, refl, ap, sym, ◌∙◌, arith}
+use Rattle.std.proofs.Common.{◌≡◌, ℕ, ◌≤◌, Option, Some, None, List, [], ◌∷◌, ◌++◌, length, take, drop, refl, ap, sym, ◌∙◌, arith}
 use Rattle.std.specs.Prelude.{option_map}
 use Rattle.std.proofs.lemmas.List.{take-append-drop}
-use Rattle.lego_term.specs.Trees.{Core, Const, App, Fst, Snd, Bodies, loose}
+use Rattle.lego_term.specs.Trees.{Core, Const, App, Fst, Snd, Let, Bodies, loose, depth}
 use Rattle.lego_term.specs.Sequences.{or_else, contract_app, contract_fst, contract_snd, head_step}
 use Rattle.lego_term.specs.Parts.{Subtree, part, IsTooLarge, subtree}
 use Rattle.lego_term.specs.declared.binder.Binder.{Binder}
@@ -36,14 +36,17 @@ module _ (bodies : Bodies Binder Mark Level) where
   steps_in_one (Argument k n) (App i a b) v e = ap (option_map (λ m. App k m n)) e
   steps_in_one (Argument k n) (Fst a) v e = ap (option_map (λ m. App k m n)) e
   steps_in_one (Argument k n) (Snd a) v e = ap (option_map (λ m. App k m n)) e
+  steps_in_one (Argument k n) (Let x a b) v e = ap (option_map (λ m. App k m n)) e
   steps_in_one First (Const i) v e = ap (option_map Fst) e
   steps_in_one First (App i a b) v e = ap (option_map Fst) e
   steps_in_one First (Fst a) v e = ap (option_map Fst) e
   steps_in_one First (Snd a) v e = ap (option_map Fst) e
+  steps_in_one First (Let x a b) v e = ap (option_map Fst) e
   steps_in_one Second (Const i) v e = ap (option_map Snd) e
   steps_in_one Second (App i a b) v e = ap (option_map Snd) e
   steps_in_one Second (Fst a) v e = ap (option_map Snd) e
   steps_in_one Second (Snd a) v e = ap (option_map Snd) e
+  steps_in_one Second (Let x a b) v e = ap (option_map Snd) e
   steps_in_one _ _ v e = absurd (cc)
 
   pub steps_in : (fs : List Frame) (u v : Core) → head_step bodies u ≡ Some v → head_step bodies (plug fs u) ≡ Some (plug fs v)
@@ -111,3 +114,10 @@ loose-plug (Second ∷ fs) u = loose-plug fs u
 
 pub plug-split : (fs : List Frame) (i : ℕ) (u : Core) → plug fs u ≡ plug (take i fs) (plug (drop i fs) u)
 plug-split fs i u = ap (λ gs. plug gs u) (sym (take-append-drop i fs)) ∙ plug-append (take i fs) (drop i fs) u
+
+-- a term is deeper than the frames around it are many
+pub depth-plug : (fs : List Frame) (u : Core) → length fs ≤ depth (plug fs u)
+depth-plug [] u = omega arith
+depth-plug (Argument k n ∷ fs) u = omega (arith, depth-plug fs u)
+depth-plug (First ∷ fs) u = omega (arith, depth-plug fs u)
+depth-plug (Second ∷ fs) u = omega (arith, depth-plug fs u)

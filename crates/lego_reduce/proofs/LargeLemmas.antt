@@ -1,7 +1,7 @@
 -- The first subtree over a limit is a subtree over a limit.
 use Rattle.std.proofs.Common.{◌≡◌, ℕ, ◌⊎◌, inl, inr, nat_le, ◌&&◌, Bool, true, false, if◌then◌else◌, Option, Some, None, refl, ap, sym, subst, arith}
 use Rattle.std.proofs.lemmas.Bool.Decides.{nat_tests}
-use Rattle.lego_term.specs.Trees.{Core, Var, Const, Prop, Univ, Pi, Lam, App, Sigma, Pair, Fst, Snd, size, depth}
+use Rattle.lego_term.specs.Trees.{Core, Var, Const, Prop, Univ, Pi, Lam, App, Sigma, Pair, Fst, Snd, Let, size, depth}
 use Rattle.lego_term.specs.Made.{Passes, either_of, over, first_over}
 use Rattle.lego_term.specs.Parts.{Subtree, whole, part, IsTooLarge, subtree}
 
@@ -91,4 +91,12 @@ first_over-large (Snd m) i j e =
     elim (from_either (first_over m) _ (i, j) e) [
       | inl p ↦ in_part _ m i j (λ v s. part 0 refl s) (first_over-large m i j p)
       | inr p ↦ over-large _ i j p
+    ]
+first_over-large (Let x m n) i j e =
+    elim (from_either (first_over m) _ (i, j) e) [
+      | inl p ↦ in_part _ m i j (λ v s. part 0 refl s) (first_over-large m i j p)
+      | inr p ↦ elim (from_either (first_over n) _ (i, j) p) [
+        | inl q ↦ in_part _ n i j (λ v s. part 1 refl s) (first_over-large n i j q)
+        | inr q ↦ over-large _ i j q
+      ]
     ]

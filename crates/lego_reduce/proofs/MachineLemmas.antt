@@ -17,7 +17,7 @@ use Rattle.lego_reduce.specs.declared.frames.Frame.TheVariants.{Argument, First,
 use Rattle.lego_reduce.specs.declared.head_form.Turn.{Turn}
 use Rattle.lego_reduce.specs.declared.head_form.Turn.TheVariants.{Stepped, Stopped}
 use Rattle.lego_reduce.specs.Faults.{of_term}
-use Rattle.lego_reduce.specs.Frames.{plug, plug_one, contract_one, Rebuilt, Turns}
+use Rattle.lego_reduce.specs.Frames.{plug, plug_one, contract_one, Rebuilt, Contracted, Turns}
 use Rattle.lego_reduce.proofs.LargeLemmas.{first_over-large, large_whole}
 use Rattle.lego_reduce.proofs.FrameLemmas.{steps_in, redex_steps, none_around, too_large_in, plug-split}
 
@@ -34,6 +34,11 @@ second_redex f u x a b m n e r = ap (contract_one f) (sym r) ∙ ap (λ g. contr
 pub step_fault : (w v : Core) (next : Option Core) (b : Bool) (around : Core → Core) (e : TermFault) → b ≡ true → next ≡ Some v → Rebuilds v (Err e) → Turns w next b around (Err (of_term e))
 step_fault w v next b around (term.TooLarge i j) t s over = inr (t, (v, s, first_over-large v i j over))
 step_fault w v next b around term.Memory t s over = tt
+
+-- what a head goes to passes a limit
+pub contracted_fault : (v : Core) (next : Option Core) (b : Bool) (e : TermFault) → b ≡ true → next ≡ Some v → Rebuilds v (Err e) → Contracted next b (Err (of_term e))
+contracted_fault v next b (term.TooLarge i j) t s over = (t, (v, s, first_over-large v i j over))
+contracted_fault v next b term.Memory t s over = tt
 
 -- no step, and the whole passes a limit
 pub whole_fault : (w : Core) (next : Option Core) (b : Bool) (around : Core → Core) (e : TermFault) → Makes w (Err e) → Turns w next b around (Err (of_term e))
@@ -76,3 +81,11 @@ module _ (bodies : Bodies Binder Mark Level) where
         | inr p ↦ inr (p.0, (plug fs p.1.0, steps_in bodies fs (plug_one f u) p.1.0 (redex_steps bodies f u p.1.0 p.1.1), too_large_in fs p.1.0 i j p.1.2))
       ]
   turns_around fs f u b (Err Memory) none h = tt
+
+  -- a fault at the head, as one of the whole
+  pub contracted_around : (fs gs : List Frame) (u : Core) (b : Bool) (e : ReduceFault) → Contracted (head_step bodies u) b (Err e)
+      → Turns (plug fs u) (head_step bodies (plug fs u)) b (plug gs) (Err e)
+  contracted_around fs gs u b Budget h = (h.0, (plug fs h.1.0, steps_in bodies fs u h.1.0 h.1.1))
+  contracted_around fs gs u b (TooLarge i j) h =
+      inr (h.0, (plug fs h.1.0, steps_in bodies fs u h.1.0 h.1.1, too_large_in fs h.1.0 i j h.1.2))
+  contracted_around fs gs u b Memory h = tt

@@ -1,23 +1,20 @@
 -- Normalisation steps of each form, and head steps among them.
-use Rattle.std.proofs.Common.{◌≡◌, ℕ, zero, suc, ◌+◌, ◌-◌, ◌≤◌, inl, inr, Bool, false, Option, Some, None, refl, ap, sym, subst, ◌∙◌, arith, Err}
+use Rattle.std.proofs.Common.{◌≡◌, ℕ, zero, suc, ◌+◌, ◌≤◌, inl, inr, true, Option, Some, None, slice_get, refl, ap, sym, subst, ◌∙◌, arith, Err}
 use Rattle.std.specs.Prelude.{option_map, option_and_then}
-use Rattle.lego_term.specs.Trees.{Core, Const, Pi, Lam, App, Sigma, Pair, Fst, Snd, Bodies, loose}
+use Rattle.lego_term.specs.Trees.{Core, Const, Pi, Lam, App, Sigma, Pair, Fst, Snd, Let, Bodies, loose, depth}
 use Rattle.lego_term.specs.Sequences.{or_else, contract_app, contract_fst, contract_snd, head_step, normal_step, after}
-use Rattle.lego_term.specs.Parts.{part}
+use Rattle.lego_term.specs.Parts.{Branch, parts_of, part}
+use Rattle.lego_term.specs.Numbered.{put_part, is_at_head}
 use Rattle.lego_term.specs.declared.binder.Binder.{Binder}
 use Rattle.lego_term.specs.declared.binder.Mark.{Mark}
 use Rattle.lego_term.specs.declared.level.Level.{Level}
-use Rattle.lego_reduce.specs.declared.normal_form.Binding.{Binding}
-use Rattle.lego_reduce.specs.declared.normal_form.Binding.TheVariants as binding
-use Rattle.lego_reduce.specs.declared.normal_form.Projection.{Projection}
-use Rattle.lego_reduce.specs.declared.normal_form.Projection.TheVariants as projection
 use Rattle.lego_reduce.specs.declared.fault.ReduceFault.{ReduceFault}
 use Rattle.lego_reduce.specs.declared.fault.ReduceFault.TheVariants.{Budget, TooLarge, Memory}
 use Rattle.lego_reduce.specs.Reduction.{Reduces}
-use Rattle.lego_reduce.specs.Nesting.{bound, projected, Stands, Arrives, Goes}
-use Rattle.lego_reduce.proofs.SequenceLemmas.{after-step, after-plus}
+use Rattle.lego_reduce.specs.Nesting.{NormalBefore, Arrives, Goes}
+use Rattle.lego_reduce.proofs.SequenceLemmas.{after-step}
 use Rattle.lego_reduce.proofs.StepLemmas.{from_or_else, from_map}
-use Rattle.lego_reduce.proofs.ContextLemmas.{Around, Passes}
+use Rattle.lego_reduce.proofs.ContextLemmas.{Around, Passes, after_around, part_fault}
 
 no_first : (o p : Option Core) → or_else o p ≡ None → o ≡ None
 no_first None p e = refl
@@ -41,39 +38,24 @@ app_none : (m n n' : Core) → contract_app m n ≡ None → contract_app m n' �
 app_none (Lam x a m) n n' e = absurd (cc)
 app_none _ n n' e = refl
 
--- the redex that the projection and the term are
-abbrev contract_projected : Projection → Core → Option Core
-contract_projected projection.First m = contract_fst m
-contract_projected projection.Second m = contract_snd m
-
 module _ (bodies : Bodies Binder Mark Level) where
-  -- a term within which an elimination makes no redex, and that has no head step
-  pub record IsNeutral (m : Core) : Type 0 where
-    pub no_beta : (n : Core) → contract_app m n ≡ None
-    pub stopped : head_step bodies m ≡ None
-
-  pub record IsStopped (p : Projection) (m : Core) : Type 0 where
-    pub no_redex : contract_projected p m ≡ None
-    pub stopped : head_step bodies m ≡ None
-
   app_parts : (k : Mark) (m n : Core) → head_step bodies (App k m n) ≡ None → (contract_app m n ≡ None) × (head_step bodies m ≡ None)
   app_parts k m n e = (no_first (contract_app m n) _ e, no_second (λ m'. App k m' n) (contract_app m n) (head_step bodies m) e)
 
-  pub app_neutral : (k : Mark) (m n : Core) → head_step bodies (App k m n) ≡ None → IsNeutral m
-  app_neutral k m n e =
-      let parts = app_parts k m n e in
-      record { no_beta = λ n'. app_none m n n' parts.0; stopped = parts.1 }
+  app_stopped : (k : Mark) (m n : Core) → contract_app m n ≡ None → head_step bodies m ≡ None → head_step bodies (App k m n) ≡ None
+  app_stopped k m n e h = neither (λ m'. App k m' n) (contract_app m n) (head_step bodies m) e h
 
-  pub neutral_app : (k : Mark) (m n : Core) → IsNeutral m → head_step bodies (App k m n) ≡ None
-  neutral_app k m n h = neither (λ m'. App k m' n) (contract_app m n) (head_step bodies m) (h.no_beta n) h.stopped
+  fst_parts : (m : Core) → head_step bodies (Fst m) ≡ None → (contract_fst m ≡ None) × (head_step bodies m ≡ None)
+  fst_parts m e = (no_first (contract_fst m) _ e, no_second Fst (contract_fst m) (head_step bodies m) e)
 
-  pub projected_stopped : (p : Projection) (m : Core) → head_step bodies (projected p m) ≡ None → IsStopped p m
-  projected_stopped projection.First m e = record { no_redex = no_first (contract_fst m) _ e; stopped = no_second Fst (contract_fst m) (head_step bodies m) e }
-  projected_stopped projection.Second m e = record { no_redex = no_first (contract_snd m) _ e; stopped = no_second Snd (contract_snd m) (head_step bodies m) e }
+  fst_stopped : (m : Core) → contract_fst m ≡ None → head_step bodies m ≡ None → head_step bodies (Fst m) ≡ None
+  fst_stopped m e h = neither Fst (contract_fst m) (head_step bodies m) e h
 
-  stopped_projected : (p : Projection) (m : Core) → IsStopped p m → head_step bodies (projected p m) ≡ None
-  stopped_projected projection.First m h = neither Fst (contract_fst m) (head_step bodies m) h.no_redex h.stopped
-  stopped_projected projection.Second m h = neither Snd (contract_snd m) (head_step bodies m) h.no_redex h.stopped
+  snd_parts : (m : Core) → head_step bodies (Snd m) ≡ None → (contract_snd m ≡ None) × (head_step bodies m ≡ None)
+  snd_parts m e = (no_first (contract_snd m) _ e, no_second Snd (contract_snd m) (head_step bodies m) e)
+
+  snd_stopped : (m : Core) → contract_snd m ≡ None → head_step bodies m ≡ None → head_step bodies (Snd m) ≡ None
+  snd_stopped m e h = neither Snd (contract_snd m) (head_step bodies m) e h
 
   -- what a step in the parts of a head form leaves as it was
   record Keeps (m v : Core) : Type 0 where
@@ -122,14 +104,16 @@ module _ (bodies : Bodies Binder Mark Level) where
     keeps_snd = λ q. ap contract_snd (sym e);
   }
 
-  keeps_projected : (u : Core) (p : Projection) (m v : Core) → head_step bodies (projected p m) ≡ None → projected p m ≡ v → Keeps u v
-  keeps_projected u projection.First m v h e = record {
+  keeps_fst_form : (u m v : Core) → head_step bodies (Fst m) ≡ None → Fst m ≡ v → Keeps u v
+  keeps_fst_form u m v h e = record {
     stays = ap (head_step bodies) (sym e) ∙ h;
     keeps_app = λ n' q. ap (λ w. contract_app w n') (sym e);
     keeps_fst = λ q. ap contract_fst (sym e);
     keeps_snd = λ q. ap contract_snd (sym e);
   }
-  keeps_projected u projection.Second m v h e = record {
+
+  keeps_snd_form : (u m v : Core) → head_step bodies (Snd m) ≡ None → Snd m ≡ v → Keeps u v
+  keeps_snd_form u m v h e = record {
     stays = ap (head_step bodies) (sym e) ∙ h;
     keeps_app = λ n' q. ap (λ w. contract_app w n') (sym e);
     keeps_fst = λ q. ap contract_fst (sym e);
@@ -172,107 +156,141 @@ module _ (bodies : Bodies Binder Mark Level) where
           | inl q ↦
               (let w = from_map (λ m'. App k m' n) (normal_step bodies m) v q in
               let rest = keeps m w.0 parts.1 w.1 in
-              keeps_app_form (App k m n) k w.0 n v (neither (λ m'. App k m' n) (contract_app w.0 n) (head_step bodies w.0) (rest.keeps_app n parts.0) rest.stays) w.2)
+              keeps_app_form (App k m n) k w.0 n v (app_stopped k w.0 n (rest.keeps_app n parts.0) rest.stays) w.2)
           | inr q ↦
               (let w = from_map (λ n'. App k m n') (normal_step bodies n) v q in
-              keeps_app_form (App k m n) k m w.0 v (neither (λ m'. App k m' w.0) (contract_app m w.0) (head_step bodies m) (app_none m n w.0 parts.0) parts.1) w.2)
+              keeps_app_form (App k m n) k m w.0 v (app_stopped k m w.0 (app_none m n w.0 parts.0) parts.1) w.2)
         ]
       ]
   keeps (Fst m) v h e =
-      let parts = projected_stopped projection.First m h in
+      let parts = fst_parts m h in
       elim (from_or_else (head_step bodies (Fst m)) _ v e) [
         | inl p ↦ absurd (cc)
         | inr p ↦
             (let w = from_map Fst (normal_step bodies m) v p in
-            let rest = keeps m w.0 parts.stopped w.1 in
-            keeps_projected (Fst m) projection.First w.0 v (neither Fst (contract_fst w.0) (head_step bodies w.0) (rest.keeps_fst parts.no_redex) rest.stays) w.2)
+            let rest = keeps m w.0 parts.1 w.1 in
+            keeps_fst_form (Fst m) w.0 v (fst_stopped w.0 (rest.keeps_fst parts.0) rest.stays) w.2)
       ]
   keeps (Snd m) v h e =
-      let parts = projected_stopped projection.Second m h in
+      let parts = snd_parts m h in
       elim (from_or_else (head_step bodies (Snd m)) _ v e) [
         | inl p ↦ absurd (cc)
         | inr p ↦
             (let w = from_map Snd (normal_step bodies m) v p in
-            let rest = keeps m w.0 parts.stopped w.1 in
-            keeps_projected (Snd m) projection.Second w.0 v (neither Snd (contract_snd w.0) (head_step bodies w.0) (rest.keeps_snd parts.no_redex) rest.stays) w.2)
+            let rest = keeps m w.0 parts.1 w.1 in
+            keeps_snd_form (Snd m) w.0 v (snd_stopped w.0 (rest.keeps_snd parts.0) rest.stays) w.2)
       ]
   keeps _ v h e = absurd (cc)
 
-  pub bound_first : (k : Binding) (x : Binder) (b : Core) → Passes bodies (λ a. bound k x a b) (λ a. Unit {0})
-  bound_first binding.Pi x b = record { passed = λ u v g e. take_first _ _ (Pi x v b) (ap (option_map (λ a. Pi x a b)) e); kept = λ u v g e. tt }
-  bound_first binding.Lam x b = record { passed = λ u v g e. take_first _ _ (Lam x v b) (ap (option_map (λ a. Lam x a b)) e); kept = λ u v g e. tt }
-  bound_first binding.Sigma x b = record { passed = λ u v g e. take_first _ _ (Sigma x v b) (ap (option_map (λ a. Sigma x a b)) e); kept = λ u v g e. tt }
-
-  pub bound_second : (k : Binding) (x : Binder) (a : Core) → normal_step bodies a ≡ None → Passes bodies (λ b. bound k x a b) (λ b. Unit {0})
-  bound_second binding.Pi x a h = record { passed = λ u v g e. skip_first _ _ (Some (Pi x a v)) (ap (option_map (λ a'. Pi x a' u)) h) (ap (option_map (λ b. Pi x a b)) e); kept = λ u v g e. tt }
-  bound_second binding.Lam x a h = record { passed = λ u v g e. skip_first _ _ (Some (Lam x a v)) (ap (option_map (λ a'. Lam x a' u)) h) (ap (option_map (λ b. Lam x a b)) e); kept = λ u v g e. tt }
-  bound_second binding.Sigma x a h = record { passed = λ u v g e. skip_first _ _ (Some (Sigma x a v)) (ap (option_map (λ a'. Sigma x a' u)) h) (ap (option_map (λ b. Sigma x a b)) e); kept = λ u v g e. tt }
-
-  pub bound_end : (k : Binding) (x : Binder) (a b : Core) → normal_step bodies a ≡ None → normal_step bodies b ≡ None → normal_step bodies (bound k x a b) ≡ None
-  bound_end binding.Pi x a b h i = skip_first _ _ None (ap (option_map (λ a'. Pi x a' b)) h) (ap (option_map (λ b'. Pi x a b')) i)
-  bound_end binding.Lam x a b h i = skip_first _ _ None (ap (option_map (λ a'. Lam x a' b)) h) (ap (option_map (λ b'. Lam x a b')) i)
-  bound_end binding.Sigma x a b h i = skip_first _ _ None (ap (option_map (λ a'. Sigma x a' b)) h) (ap (option_map (λ b'. Sigma x a b')) i)
-
-  pub app_first : (k : Mark) (n : Core) → Passes bodies (λ m. App k m n) IsNeutral
-  app_first k n = record {
-    passed = λ u v g e. skip_first _ _ (Some (App k v n)) (neutral_app k u n g) (take_first _ _ (App k v n) (ap (option_map (λ m. App k m n)) e));
-    kept = λ u v g e. (let rest = keeps u v g.stopped e in record { no_beta = λ n'. rest.keeps_app n' (g.no_beta n'); stopped = rest.stays });
+  -- a step of the numbered part of a head form is the next step of the whole, where no part before it has one
+  pub part_passes : (t : Core) (i : ℕ) (p : Branch) → slice_get (parts_of t) i ≡ Some p → head_step bodies t ≡ None → NormalBefore bodies i (parts_of t)
+      → Passes bodies (λ u. put_part i u t) (λ u. head_step bodies (put_part i u t) ≡ None)
+  part_passes (Pi x a c) zero p h s b = record {
+    passed = λ u v g e. take_first _ _ (Pi x v c) (ap (option_map (λ z. Pi x z c)) e);
+    kept = λ u v g e. refl;
   }
-
-  pub app_second : (k : Mark) (m : Core) → IsNeutral m → normal_step bodies m ≡ None → Passes bodies (λ n. App k m n) (λ n. Unit {0})
-  app_second k m h i = record {
-    passed = λ u v g e. skip_first _ _ (Some (App k m v)) (neutral_app k m u h) (skip_first _ _ (Some (App k m v)) (ap (option_map (λ m'. App k m' u)) i) (ap (option_map (λ n. App k m n)) e));
-    kept = λ u v g e. tt;
+  part_passes (Pi x a c) (suc zero) p h s b = record {
+    passed = λ u v g e. skip_first _ _ (Some (Pi x a v)) (ap (option_map (λ z. Pi x z u)) b.0) (ap (option_map (λ z. Pi x a z)) e);
+    kept = λ u v g e. refl;
   }
-
-  pub app_end : (k : Mark) (m n : Core) → IsNeutral m → normal_step bodies m ≡ None → normal_step bodies n ≡ None → normal_step bodies (App k m n) ≡ None
-  app_end k m n h i j = skip_first _ _ None (neutral_app k m n h) (skip_first _ _ None (ap (option_map (λ m'. App k m' n)) i) (ap (option_map (λ n'. App k m n')) j))
-
-  pub projected_part : (p : Projection) → Passes bodies (projected p) (IsStopped p)
-  projected_part projection.First = record {
-    passed = λ u v g e. skip_first _ _ (Some (Fst v)) (stopped_projected projection.First u g) (ap (option_map Fst) e);
-    kept = λ u v g e. (let rest = keeps u v g.stopped e in record { no_redex = rest.keeps_fst g.no_redex; stopped = rest.stays });
+  part_passes (Lam x a c) zero p h s b = record {
+    passed = λ u v g e. take_first _ _ (Lam x v c) (ap (option_map (λ z. Lam x z c)) e);
+    kept = λ u v g e. refl;
   }
-  projected_part projection.Second = record {
-    passed = λ u v g e. skip_first _ _ (Some (Snd v)) (stopped_projected projection.Second u g) (ap (option_map Snd) e);
-    kept = λ u v g e. (let rest = keeps u v g.stopped e in record { no_redex = rest.keeps_snd g.no_redex; stopped = rest.stays });
+  part_passes (Lam x a c) (suc zero) p h s b = record {
+    passed = λ u v g e. skip_first _ _ (Some (Lam x a v)) (ap (option_map (λ z. Lam x z u)) b.0) (ap (option_map (λ z. Lam x a z)) e);
+    kept = λ u v g e. refl;
   }
-
-  pub projected_end : (p : Projection) (m : Core) → IsStopped p m → normal_step bodies m ≡ None → normal_step bodies (projected p m) ≡ None
-  projected_end projection.First m h i = skip_first _ _ None (stopped_projected projection.First m h) (ap (option_map Fst) i)
-  projected_end projection.Second m h i = skip_first _ _ None (stopped_projected projection.Second m h) (ap (option_map Snd) i)
-
-  pub pair_first : (x : Binder) (b m n : Core) → Passes bodies (λ a. Pair x a b m n) (λ a. Unit {0})
-  pair_first x b m n = record { passed = λ u v g e. take_first _ _ (Pair x v b m n) (ap (option_map (λ a. Pair x a b m n)) e); kept = λ u v g e. tt }
-
-  pub pair_second : (x : Binder) (a m n : Core) → normal_step bodies a ≡ None → Passes bodies (λ b. Pair x a b m n) (λ b. Unit {0})
-  pair_second x a m n h = record {
-    passed = λ u v g e. skip_first _ _ (Some (Pair x a v m n)) (ap (option_map (λ a'. Pair x a' u m n)) h) (take_first _ _ (Pair x a v m n) (ap (option_map (λ b. Pair x a b m n)) e));
-    kept = λ u v g e. tt;
+  part_passes (App k m n) zero p h s b = record {
+    passed = λ u v g e. skip_first _ _ (Some (App k v n)) g (take_first _ _ (App k v n) (ap (option_map (λ z. App k z n)) e));
+    kept = λ u v g e. (let q = app_parts k u n g in let r = keeps u v q.1 e in app_stopped k v n (r.keeps_app n q.0) r.stays);
   }
-
-  pub pair_third : (x : Binder) (a b n : Core) → normal_step bodies a ≡ None → normal_step bodies b ≡ None → Passes bodies (λ m. Pair x a b m n) (λ m. Unit {0})
-  pair_third x a b n h i = record {
-    passed = λ u v g e.
-        skip_first _ _ (Some (Pair x a b v n)) (ap (option_map (λ a'. Pair x a' b u n)) h)
-        (skip_first _ _ (Some (Pair x a b v n)) (ap (option_map (λ b'. Pair x a b' u n)) i) (take_first _ _ (Pair x a b v n) (ap (option_map (λ m. Pair x a b m n)) e)));
-    kept = λ u v g e. tt;
+  part_passes (App k m n) (suc zero) p h s b = record {
+    passed = λ u v g e. skip_first _ _ (Some (App k m v)) g (skip_first _ _ (Some (App k m v)) (ap (option_map (λ z. App k z u)) b.0) (ap (option_map (λ z. App k m z)) e));
+    kept = λ u v g e. (let q = app_parts k m u g in app_stopped k m v (app_none m u v q.0) q.1);
   }
-
-  pub pair_fourth : (x : Binder) (a b m : Core) → normal_step bodies a ≡ None → normal_step bodies b ≡ None → normal_step bodies m ≡ None → Passes bodies (λ n. Pair x a b m n) (λ n. Unit {0})
-  pair_fourth x a b m h i j = record {
-    passed = λ u v g e.
-        skip_first _ _ (Some (Pair x a b m v)) (ap (option_map (λ a'. Pair x a' b m u)) h)
-        (skip_first _ _ (Some (Pair x a b m v)) (ap (option_map (λ b'. Pair x a b' m u)) i)
-        (skip_first _ _ (Some (Pair x a b m v)) (ap (option_map (λ m'. Pair x a b m' u)) j) (ap (option_map (λ n. Pair x a b m n)) e)));
-    kept = λ u v g e. tt;
+  part_passes (Sigma x a c) zero p h s b = record {
+    passed = λ u v g e. take_first _ _ (Sigma x v c) (ap (option_map (λ z. Sigma x z c)) e);
+    kept = λ u v g e. refl;
   }
+  part_passes (Sigma x a c) (suc zero) p h s b = record {
+    passed = λ u v g e. skip_first _ _ (Some (Sigma x a v)) (ap (option_map (λ z. Sigma x z u)) b.0) (ap (option_map (λ z. Sigma x a z)) e);
+    kept = λ u v g e. refl;
+  }
+  part_passes (Pair x a c m n) zero p h s b = record {
+    passed = λ u v g e. take_first _ _ (Pair x v c m n) (ap (option_map (λ z. Pair x z c m n)) e);
+    kept = λ u v g e. refl;
+  }
+  part_passes (Pair x a c m n) (suc zero) p h s b = record {
+    passed = λ u v g e. skip_first _ _ (Some (Pair x a v m n)) (ap (option_map (λ z. Pair x z u m n)) b.0) (take_first _ _ (Pair x a v m n) (ap (option_map (λ z. Pair x a z m n)) e));
+    kept = λ u v g e. refl;
+  }
+  part_passes (Pair x a c m n) (suc (suc zero)) p h s b = record {
+    passed = λ u v g e. skip_first _ _ (Some (Pair x a c v n)) (ap (option_map (λ z. Pair x z c u n)) b.0) (skip_first _ _ (Some (Pair x a c v n)) (ap (option_map (λ z. Pair x a z u n)) b.1.0) (take_first _ _ (Pair x a c v n) (ap (option_map (λ z. Pair x a c z n)) e)));
+    kept = λ u v g e. refl;
+  }
+  part_passes (Pair x a c m n) (suc (suc (suc zero))) p h s b = record {
+    passed = λ u v g e. skip_first _ _ (Some (Pair x a c m v)) (ap (option_map (λ z. Pair x z c m u)) b.0) (skip_first _ _ (Some (Pair x a c m v)) (ap (option_map (λ z. Pair x a z m u)) b.1.0) (skip_first _ _ (Some (Pair x a c m v)) (ap (option_map (λ z. Pair x a c z u)) b.1.1.0) (ap (option_map (λ z. Pair x a c m z)) e)));
+    kept = λ u v g e. refl;
+  }
+  part_passes (Fst m) zero p h s b = record {
+    passed = λ u v g e. skip_first _ _ (Some (Fst v)) g (ap (option_map (λ z. Fst z)) e);
+    kept = λ u v g e. (let q = fst_parts u g in let r = keeps u v q.1 e in fst_stopped v (r.keeps_fst q.0) r.stays);
+  }
+  part_passes (Snd m) zero p h s b = record {
+    passed = λ u v g e. skip_first _ _ (Some (Snd v)) g (ap (option_map (λ z. Snd z)) e);
+    kept = λ u v g e. (let q = snd_parts u g in let r = keeps u v q.1 e in snd_stopped v (r.keeps_snd q.0) r.stays);
+  }
+  part_passes (Let x m n) i p e s b = absurd (cc)
+  part_passes _ _ p h s b = absurd (cc)
 
-  pub pair_end : (x : Binder) (a b m n : Core) → normal_step bodies a ≡ None → normal_step bodies b ≡ None → normal_step bodies m ≡ None → normal_step bodies n ≡ None → normal_step bodies (Pair x a b m n) ≡ None
-  pair_end x a b m n h i j l =
-      skip_first _ _ None (ap (option_map (λ a'. Pair x a' b m n)) h)
-      (skip_first _ _ None (ap (option_map (λ b'. Pair x a b' m n)) i)
-      (skip_first _ _ None (ap (option_map (λ m'. Pair x a b m' n)) j) (ap (option_map (λ n'. Pair x a b m n')) l)))
+  -- the parts up to the numbered one have no step, where those before it have none and its new one has none
+  pub part_before : (t : Core) (i : ℕ) (p : Branch) (u : Core) → slice_get (parts_of t) i ≡ Some p → NormalBefore bodies i (parts_of t) → normal_step bodies u ≡ None
+      → NormalBefore bodies (suc i) (parts_of (put_part i u t))
+  part_before (Pi x a c) zero p u h b e = (e, tt)
+  part_before (Pi x a c) (suc zero) p u h b e = (b.0, (e, tt))
+  part_before (Lam x a c) zero p u h b e = (e, tt)
+  part_before (Lam x a c) (suc zero) p u h b e = (b.0, (e, tt))
+  part_before (App k m n) zero p u h b e = (e, tt)
+  part_before (App k m n) (suc zero) p u h b e = (b.0, (e, tt))
+  part_before (Sigma x a c) zero p u h b e = (e, tt)
+  part_before (Sigma x a c) (suc zero) p u h b e = (b.0, (e, tt))
+  part_before (Pair x a c m n) zero p u h b e = (e, tt)
+  part_before (Pair x a c m n) (suc zero) p u h b e = (b.0, (e, tt))
+  part_before (Pair x a c m n) (suc (suc zero)) p u h b e = (b.0, (b.1.0, (e, tt)))
+  part_before (Pair x a c m n) (suc (suc (suc zero))) p u h b e = (b.0, (b.1.0, (b.1.1.0, (e, tt))))
+  part_before (Fst m) zero p u h b e = (e, tt)
+  part_before (Snd m) zero p u h b e = (e, tt)
+  part_before (Let x m n) zero p u h b e = (e, tt)
+  part_before (Let x m n) (suc zero) p u h b e = (b.0, (e, tt))
+  part_before _ _ p u h b e = absurd (cc)
+
+  -- a head form no part of which has a step has none
+  pub parts_end : (t : Core) (i : ℕ) → slice_get (parts_of t) i ≡ None → head_step bodies t ≡ None → NormalBefore bodies i (parts_of t) → normal_step bodies t ≡ None
+  parts_end (Pi x a c) zero h s b = absurd (cc)
+  parts_end (Pi x a c) (suc zero) h s b = absurd (cc)
+  parts_end (Pi x a c) (suc (suc i)) h s b = skip_first _ _ None (ap (option_map (λ z. Pi x z c)) b.0) (ap (option_map (λ z. Pi x a z)) b.1.0)
+  parts_end (Lam x a c) zero h s b = absurd (cc)
+  parts_end (Lam x a c) (suc zero) h s b = absurd (cc)
+  parts_end (Lam x a c) (suc (suc i)) h s b = skip_first _ _ None (ap (option_map (λ z. Lam x z c)) b.0) (ap (option_map (λ z. Lam x a z)) b.1.0)
+  parts_end (App k m n) zero h s b = absurd (cc)
+  parts_end (App k m n) (suc zero) h s b = absurd (cc)
+  parts_end (App k m n) (suc (suc i)) h s b = skip_first _ _ None s (skip_first _ _ None (ap (option_map (λ z. App k z n)) b.0) (ap (option_map (λ z. App k m z)) b.1.0))
+  parts_end (Sigma x a c) zero h s b = absurd (cc)
+  parts_end (Sigma x a c) (suc zero) h s b = absurd (cc)
+  parts_end (Sigma x a c) (suc (suc i)) h s b = skip_first _ _ None (ap (option_map (λ z. Sigma x z c)) b.0) (ap (option_map (λ z. Sigma x a z)) b.1.0)
+  parts_end (Pair x a c m n) zero h s b = absurd (cc)
+  parts_end (Pair x a c m n) (suc zero) h s b = absurd (cc)
+  parts_end (Pair x a c m n) (suc (suc zero)) h s b = absurd (cc)
+  parts_end (Pair x a c m n) (suc (suc (suc zero))) h s b = absurd (cc)
+  parts_end (Pair x a c m n) (suc (suc (suc (suc i)))) h s b = skip_first _ _ None (ap (option_map (λ z. Pair x z c m n)) b.0) (skip_first _ _ None (ap (option_map (λ z. Pair x a z m n)) b.1.0) (skip_first _ _ None (ap (option_map (λ z. Pair x a c z n)) b.1.1.0) (ap (option_map (λ z. Pair x a c m z)) b.1.1.1.0)))
+  parts_end (Fst m) zero h s b = absurd (cc)
+  parts_end (Fst m) (suc i) h s b = skip_first _ _ None s (ap (option_map (λ z. Fst z)) b.0)
+  parts_end (Snd m) zero h s b = absurd (cc)
+  parts_end (Snd m) (suc i) h s b = skip_first _ _ None s (ap (option_map (λ z. Snd z)) b.0)
+  parts_end (Let x m n) i h s b = absurd (cc)
+  parts_end (Const k) i h s b = s
+  parts_end _ i h s b = refl
 
   -- a head step is the next step of normalisation
   head_is_next : (u v : Core) → head_step bodies u ≡ Some v → normal_step bodies u ≡ Some v
@@ -280,6 +298,7 @@ module _ (bodies : Bodies Binder Mark Level) where
   head_is_next (App k m n) v e = take_first _ _ v e
   head_is_next (Fst m) v e = take_first _ _ v e
   head_is_next (Snd m) v e = take_first _ _ v e
+  head_is_next (Let x m n) v e = e
   head_is_next _ v e = absurd (cc)
 
   pub after_head : (n : ℕ) (t u : Core) → after (head_step bodies) n t ≡ Some u → after (normal_step bodies) n t ≡ Some u
@@ -290,78 +309,113 @@ module _ (bodies : Bodies Binder Mark Level) where
         | Some x ↦ λ p q. after-step (normal_step bodies) n t x (head_is_next t x p) ∙ after_head n x u q
       ] refl e
 
-pub around_bound_first : (k : Binding) (x : Binder) (b : Core) → Around (λ a. bound k x a b)
-around_bound_first binding.Pi x b = record { above = λ u. omega arith; inside = λ u v s. part 0 refl s }
-around_bound_first binding.Lam x b = record { above = λ u. omega arith; inside = λ u v s. part 0 refl s }
-around_bound_first binding.Sigma x b = record { above = λ u. omega arith; inside = λ u v s. part 0 refl s }
+-- what stands around the numbered part
+pub part_around : (t : Core) (i : ℕ) (p : Branch) → slice_get (parts_of t) i ≡ Some p → Around (λ u. put_part i u t)
+part_around (Pi x a c) zero p h = record { above = λ u. omega arith; inside = λ u v s. part 0 refl s }
+part_around (Pi x a c) (suc zero) p h = record { above = λ u. omega arith; inside = λ u v s. part 1 refl s }
+part_around (Lam x a c) zero p h = record { above = λ u. omega arith; inside = λ u v s. part 0 refl s }
+part_around (Lam x a c) (suc zero) p h = record { above = λ u. omega arith; inside = λ u v s. part 1 refl s }
+part_around (App k m n) zero p h = record { above = λ u. omega arith; inside = λ u v s. part 0 refl s }
+part_around (App k m n) (suc zero) p h = record { above = λ u. omega arith; inside = λ u v s. part 1 refl s }
+part_around (Sigma x a c) zero p h = record { above = λ u. omega arith; inside = λ u v s. part 0 refl s }
+part_around (Sigma x a c) (suc zero) p h = record { above = λ u. omega arith; inside = λ u v s. part 1 refl s }
+part_around (Pair x a c m n) zero p h = record { above = λ u. omega arith; inside = λ u v s. part 0 refl s }
+part_around (Pair x a c m n) (suc zero) p h = record { above = λ u. omega arith; inside = λ u v s. part 1 refl s }
+part_around (Pair x a c m n) (suc (suc zero)) p h = record { above = λ u. omega arith; inside = λ u v s. part 2 refl s }
+part_around (Pair x a c m n) (suc (suc (suc zero))) p h = record { above = λ u. omega arith; inside = λ u v s. part 3 refl s }
+part_around (Fst m) zero p h = record { above = λ u. omega arith; inside = λ u v s. part 0 refl s }
+part_around (Snd m) zero p h = record { above = λ u. omega arith; inside = λ u v s. part 0 refl s }
+part_around (Let x m n) zero p h = record { above = λ u. omega arith; inside = λ u v s. part 0 refl s }
+part_around (Let x m n) (suc zero) p h = record { above = λ u. omega arith; inside = λ u v s. part 1 refl s }
+part_around _ _ p h = absurd (cc)
 
-pub around_bound_second : (k : Binding) (x : Binder) (a : Core) → Around (λ b. bound k x a b)
-around_bound_second binding.Pi x a = record { above = λ u. omega arith; inside = λ u v s. part 1 refl s }
-around_bound_second binding.Lam x a = record { above = λ u. omega arith; inside = λ u v s. part 1 refl s }
-around_bound_second binding.Sigma x a = record { above = λ u. omega arith; inside = λ u v s. part 1 refl s }
+-- a part put for itself
+pub part_same : (t : Core) (i : ℕ) (p : Branch) (u : Core) → slice_get (parts_of t) i ≡ Some p → u ≡ p.term → put_part i u t ≡ t
+part_same (Pi x a c) zero p u h e = let s : u ≡ a = cc in ap (λ z. Pi x z c) s
+part_same (Pi x a c) (suc zero) p u h e = let s : u ≡ c = cc in ap (λ z. Pi x a z) s
+part_same (Lam x a c) zero p u h e = let s : u ≡ a = cc in ap (λ z. Lam x z c) s
+part_same (Lam x a c) (suc zero) p u h e = let s : u ≡ c = cc in ap (λ z. Lam x a z) s
+part_same (App k m n) zero p u h e = let s : u ≡ m = cc in ap (λ z. App k z n) s
+part_same (App k m n) (suc zero) p u h e = let s : u ≡ n = cc in ap (λ z. App k m z) s
+part_same (Sigma x a c) zero p u h e = let s : u ≡ a = cc in ap (λ z. Sigma x z c) s
+part_same (Sigma x a c) (suc zero) p u h e = let s : u ≡ c = cc in ap (λ z. Sigma x a z) s
+part_same (Pair x a c m n) zero p u h e = let s : u ≡ a = cc in ap (λ z. Pair x z c m n) s
+part_same (Pair x a c m n) (suc zero) p u h e = let s : u ≡ c = cc in ap (λ z. Pair x a z m n) s
+part_same (Pair x a c m n) (suc (suc zero)) p u h e = let s : u ≡ m = cc in ap (λ z. Pair x a c z n) s
+part_same (Pair x a c m n) (suc (suc (suc zero))) p u h e = let s : u ≡ n = cc in ap (λ z. Pair x a c m z) s
+part_same (Fst m) zero p u h e = let s : u ≡ m = cc in ap (λ z. Fst z) s
+part_same (Snd m) zero p u h e = let s : u ≡ m = cc in ap (λ z. Snd z) s
+part_same (Let x m n) zero p u h e = let s : u ≡ m = cc in ap (λ z. Let x z n) s
+part_same (Let x m n) (suc zero) p u h e = let s : u ≡ n = cc in ap (λ z. Let x m z) s
+part_same _ _ p u h e = absurd (cc)
 
-pub around_function : (k : Mark) (n : Core) → Around (λ m. App k m n)
-around_function k n = record { above = λ u. omega arith; inside = λ u v s. part 0 refl s }
-
-pub around_argument : (k : Mark) (m : Core) → Around (λ n. App k m n)
-around_argument k m = record { above = λ u. omega arith; inside = λ u v s. part 1 refl s }
-
-pub around_projected : (p : Projection) → Around (projected p)
-around_projected projection.First = record { above = λ u. omega arith; inside = λ u v s. part 0 refl s }
-around_projected projection.Second = record { above = λ u. omega arith; inside = λ u v s. part 0 refl s }
-
-pub around_pair_first : (x : Binder) (b m n : Core) → Around (λ a. Pair x a b m n)
-around_pair_first x b m n = record { above = λ u. omega arith; inside = λ u v s. part 0 refl s }
-
-pub around_pair_second : (x : Binder) (a m n : Core) → Around (λ b. Pair x a b m n)
-around_pair_second x a m n = record { above = λ u. omega arith; inside = λ u v s. part 1 refl s }
-
-pub around_pair_third : (x : Binder) (a b n : Core) → Around (λ m. Pair x a b m n)
-around_pair_third x a b n = record { above = λ u. omega arith; inside = λ u v s. part 2 refl s }
-
-pub around_pair_fourth : (x : Binder) (a b m : Core) → Around (λ n. Pair x a b m n)
-around_pair_fourth x a b m = record { above = λ u. omega arith; inside = λ u v s. part 3 refl s }
-
-pub loose_bound_first : (k : Binding) (x : Binder) (a b : Core) → loose a ≤ loose (bound k x a b)
-loose_bound_first binding.Pi x a b = omega arith
-loose_bound_first binding.Lam x a b = omega arith
-loose_bound_first binding.Sigma x a b = omega arith
-
-pub loose_bound_second : (k : Binding) (x : Binder) (a b : Core) → loose b ≤ suc (loose (bound k x a b))
-loose_bound_second binding.Pi x a b = omega arith
-loose_bound_second binding.Lam x a b = omega arith
-loose_bound_second binding.Sigma x a b = omega arith
-
-pub loose_projected : (p : Projection) (m : Core) → loose m ≤ loose (projected p m)
-loose_projected projection.First m = omega arith
-loose_projected projection.Second m = omega arith
+pub part_loose : (t : Core) (i : ℕ) (p : Branch) (u : Core) → slice_get (parts_of t) i ≡ Some p → loose u ≤ loose p.term → loose (put_part i u t) ≤ loose t
+part_loose (Pi x a c) zero p u h e = let s : a ≡ p.term = cc in let l : loose a ≡ loose p.term = ap loose s in omega (arith, e, l)
+part_loose (Pi x a c) (suc zero) p u h e = let s : c ≡ p.term = cc in let l : loose c ≡ loose p.term = ap loose s in omega (arith, e, l)
+part_loose (Lam x a c) zero p u h e = let s : a ≡ p.term = cc in let l : loose a ≡ loose p.term = ap loose s in omega (arith, e, l)
+part_loose (Lam x a c) (suc zero) p u h e = let s : c ≡ p.term = cc in let l : loose c ≡ loose p.term = ap loose s in omega (arith, e, l)
+part_loose (App k m n) zero p u h e = let s : m ≡ p.term = cc in let l : loose m ≡ loose p.term = ap loose s in omega (arith, e, l)
+part_loose (App k m n) (suc zero) p u h e = let s : n ≡ p.term = cc in let l : loose n ≡ loose p.term = ap loose s in omega (arith, e, l)
+part_loose (Sigma x a c) zero p u h e = let s : a ≡ p.term = cc in let l : loose a ≡ loose p.term = ap loose s in omega (arith, e, l)
+part_loose (Sigma x a c) (suc zero) p u h e = let s : c ≡ p.term = cc in let l : loose c ≡ loose p.term = ap loose s in omega (arith, e, l)
+part_loose (Pair x a c m n) zero p u h e = let s : a ≡ p.term = cc in let l : loose a ≡ loose p.term = ap loose s in omega (arith, e, l)
+part_loose (Pair x a c m n) (suc zero) p u h e = let s : c ≡ p.term = cc in let l : loose c ≡ loose p.term = ap loose s in omega (arith, e, l)
+part_loose (Pair x a c m n) (suc (suc zero)) p u h e = let s : m ≡ p.term = cc in let l : loose m ≡ loose p.term = ap loose s in omega (arith, e, l)
+part_loose (Pair x a c m n) (suc (suc (suc zero))) p u h e = let s : n ≡ p.term = cc in let l : loose n ≡ loose p.term = ap loose s in omega (arith, e, l)
+part_loose (Fst m) zero p u h e = let s : m ≡ p.term = cc in let l : loose m ≡ loose p.term = ap loose s in omega (arith, e, l)
+part_loose (Snd m) zero p u h e = let s : m ≡ p.term = cc in let l : loose m ≡ loose p.term = ap loose s in omega (arith, e, l)
+part_loose (Let x m n) zero p u h e = let s : m ≡ p.term = cc in let l : loose m ≡ loose p.term = ap loose s in omega (arith, e, l)
+part_loose (Let x m n) (suc zero) p u h e = let s : n ≡ p.term = cc in let l : loose n ≡ loose p.term = ap loose s in omega (arith, e, l)
+part_loose _ _ p u h e = absurd (cc)
 
 module _ (bodies : Bodies Binder Mark Level) where
-  pub head_fault : (t : Core) (limit nest : ℕ) (e : ReduceFault) → Reduces (head_step bodies) t limit (Err e) → Goes bodies t limit nest false (Err e)
-  head_fault t limit nest Budget h = (refl, (h.0, after_head bodies (suc limit) t h.0 h.1))
-  head_fault t limit nest (TooLarge i j) h = (refl, (h.0, h.1, h.2, after_head bodies h.0 t h.1 h.3, h.4))
+  pub head_fault : (t : Core) (limit nest : ℕ) (e : ReduceFault) → Reduces (head_step bodies) t limit (Err e) → Goes bodies t limit nest (Err e)
+  head_fault t limit nest Budget h = (h.0, after_head bodies (suc limit) t h.0 h.1)
+  head_fault t limit nest (TooLarge i j) h = (h.0, h.1, h.2, after_head bodies h.0 t h.1 h.3, h.4)
   head_fault t limit nest Memory h = tt
 
-  pub chain_fault : (t u : Core) (limit nest i : ℕ) (e : ReduceFault) → after (head_step bodies) i t ≡ Some u → i ≤ limit → Goes bodies u (limit - i) nest false (Err e)
-      → Goes bodies t limit nest false (Err e)
-  chain_fault t u limit nest i Budget there le h =
-      let all : suc limit ≡ i + suc (limit - i) = omega (arith, le) in
-      (refl, (h.1.0, ap (λ n. after (normal_step bodies) n t) all ∙ (after-plus (normal_step bodies) i (suc (limit - i)) t u (after_head bodies i t u there) ∙ h.1.1)))
-  chain_fault t u limit nest i (TooLarge l j) there le h =
-      let n : ℕ = h.1.0 in
-      let within : n ≤ limit - i = h.1.2 in
-      (refl, (i + n, h.1.1, omega (arith, within, le), after-plus (normal_step bodies) i n t u (after_head bodies i t u there) ∙ h.1.3, h.1.4))
-  chain_fault t u limit nest i Memory there le h = tt
+  -- the part where a head step of a head form may be made is a head form
+  pub part_stopped : (t : Core) (i : ℕ) (p : Branch) → slice_get (parts_of t) i ≡ Some p → head_step bodies t ≡ None → is_at_head t i ≡ true → head_step bodies p.term ≡ None
+  part_stopped (App k m n) zero p h s e = let same : m ≡ p.term = cc in ap (head_step bodies) (sym same) ∙ (app_parts bodies k m n s).1
+  part_stopped (Fst m) zero p h s e = let same : m ≡ p.term = cc in ap (head_step bodies) (sym same) ∙ (fst_parts bodies m s).1
+  part_stopped (Snd m) zero p h s e = let same : m ≡ p.term = cc in ap (head_step bodies) (sym same) ∙ (snd_parts bodies m s).1
+  part_stopped _ _ p h s e = absurd (cc)
 
-  pub chain : (t u v : Core) (limit nest i k : ℕ) (deep : Bool) → after (head_step bodies) i t ≡ Some u → i ≤ limit → Arrives (normal_step bodies) u (limit - i) nest false v k deep
-      → Arrives (normal_step bodies) t limit nest false v (i + k) deep
-  chain t u v limit nest i k deep there le h =
-      let within : k ≤ limit - i = h.1 in
-      (after-plus (normal_step bodies) i k t u (after_head bodies i t u there) ∙ h.0, omega (arith, within, le), h.2)
+  -- what the whole comes to behind its numbered part
+  pub record Behind (t : Core) (i limit nest k : ℕ) (w : Core) : Type 0 where
+    pub there : after (normal_step bodies) k t ≡ Some w
+    pub within : k ≤ limit
+    pub stopped : head_step bodies w ≡ None
+    pub before : nest + depth w ≤ 2000 → NormalBefore bodies (i + 1) (parts_of w)
+    pub narrow : loose w ≤ loose t
 
-  -- where no step was made, the term itself was reached
-  pub chain_stays : (t u : Core) (limit nest k : ℕ) (deep : Bool) → k ≡ 0 → Arrives (normal_step bodies) t limit nest false u k deep → Arrives (normal_step bodies) t limit nest false t k deep
-  chain_stays t u limit nest k deep e h =
-      let start : after (normal_step bodies) 0 t ≡ Some u = ap (λ n. after (normal_step bodies) n t) (sym e) ∙ h.0 in
-      let same : u ≡ t = cc in
-      (ap (λ n. after (normal_step bodies) n t) e, h.1, subst (λ (x : Core). Stands (normal_step bodies) nest x deep) same h.2)
+  pub part_behind : (t : Core) (i : ℕ) (p : Branch) (u w : Core) (limit nest k : ℕ) → slice_get (parts_of t) i ≡ Some p → head_step bodies t ≡ None
+      → NormalBefore bodies i (parts_of t) → Arrives (normal_step bodies) p.term limit (nest + 1) u k → loose u ≤ loose p.term → w ≡ put_part i u t
+      → Behind t i limit nest k w
+  part_behind t i p u w limit nest k h s b a l is =
+      let own : put_part i p.term t ≡ t = part_same t i p p.term h refl in
+      let there = after_around bodies (λ z. put_part i z t) (λ z. head_step bodies (put_part i z t) ≡ None) (part_passes bodies t i p h s b) k p.term u (ap (head_step bodies) own ∙ s) a.0 in
+      let around = part_around t i p h in
+      let more : suc i ≡ i + 1 = omega arith in
+      subst (Behind t i limit nest k) (sym is) (record {
+        there = ap (after (normal_step bodies) k) (sym own) ∙ there.0;
+        within = a.1;
+        stopped = there.1;
+        before = λ d. subst (λ j. NormalBefore bodies j (parts_of (put_part i u t))) more (part_before bodies t i p u h b (a.2 (omega (arith, d, around.above u))));
+        narrow = part_loose t i p u h l;
+      })
+
+  -- where the sequence of the part ends, that of the whole does
+  pub part_ends : (t : Core) (i : ℕ) (p : Branch) (limit nest : ℕ) (e : ReduceFault) → slice_get (parts_of t) i ≡ Some p → head_step bodies t ≡ None
+      → NormalBefore bodies i (parts_of t) → Goes bodies p.term limit (nest + 1) (Err e) → Goes bodies t limit nest (Err e)
+  part_ends t i p limit nest e h s b g =
+      let own : put_part i p.term t ≡ t = part_same t i p p.term h refl in
+      subst (λ z. Goes bodies z limit nest (Err e)) own
+      (part_fault bodies (λ z. put_part i z t) (λ z. head_step bodies (put_part i z t) ≡ None) (part_passes bodies t i p h s b) p.term limit nest e (part_around t i p h) (ap (head_step bodies) own ∙ s) g)
+
+  -- a part without steps stays
+  pub part_stays : (t : Core) (i : ℕ) (p : Branch) (u : Core) (limit nest k : ℕ) → slice_get (parts_of t) i ≡ Some p → Arrives (normal_step bodies) p.term limit nest u k
+      → k ≡ 0 → put_part i u t ≡ t
+  part_stays t i p u limit nest k h a e =
+      let start : after (normal_step bodies) 0 p.term ≡ Some u = ap (λ n. after (normal_step bodies) n p.term) (sym e) ∙ a.0 in
+      part_same t i p u h (cc)

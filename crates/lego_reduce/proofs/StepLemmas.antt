@@ -1,7 +1,7 @@
 -- A head step raises the bound on the loose variables nowhere, where the bodies have none.
 use Rattle.std.proofs.Common.{◌≡◌, max, ◌≤◌, ◌⊎◌, inl, inr, Option, Some, None, refl, ap, sym, arith}
 use Rattle.std.specs.Prelude.{option_map}
-use Rattle.lego_term.specs.Trees.{Core, Const, Lam, App, Pair, Fst, Snd, loose, instantiate}
+use Rattle.lego_term.specs.Trees.{Core, Const, Lam, App, Pair, Fst, Snd, Let, loose, instantiate}
 use Rattle.lego_term.specs.Sequences.{or_else, contract_app, contract_fst, contract_snd, head_step}
 use Rattle.lego_term.specs.BodyMap.{BodyMap, bodies_in, AreClosed}
 use Rattle.lego_term.proofs.LooseLemmas.{loose-instantiate}
@@ -61,4 +61,8 @@ loose_step bodies closed (Snd m) v e =
           let bound : loose v ≡ loose (Snd w.0) = ap loose (sym w.2) in
           omega (arith, loose_step bodies closed m w.0 w.1))
     ]
+loose_step bodies closed (Let x m n) v e =
+    let same : instantiate n m ≡ v = cc in
+    let bound : loose v ≡ loose (instantiate n m) = ap loose (sym same) in
+    omega (arith, loose-instantiate n m)
 loose_step bodies closed _ v e = absurd (cc)

@@ -41,6 +41,14 @@ Rebuilt t (Ok made) = made ≡ t
 Rebuilt t (Err (term.TooLarge nodes levels)) = IsTooLarge t nodes levels
 Rebuilt t (Err term.Memory) = Unit {0}
 
+-- the next term of a head, which `next` gives, or there is none, or there is no budget for it
+abbrev pub Contracted : Option Core → Bool → Result (Option Core) ReduceFault → Type 0
+Contracted next budget (Ok (Some made)) = (budget ≡ true) × (next ≡ Some made)
+Contracted next budget (Ok None) = next ≡ None
+Contracted next budget (Err Budget) = (budget ≡ false) × ((u : Core) × (next ≡ Some u))
+Contracted next budget (Err (TooLarge nodes levels)) = (budget ≡ true) × ((u : Core) × (next ≡ Some u) × IsTooLarge u nodes levels)
+Contracted next budget (Err Memory) = Unit {0}
+
 -- the next term of `whole`, which `next` gives, is wanted, and there is none or there is no budget for it
 abbrev pub Turns : Core → Option Core → Bool → (Core → Core) → Result Turn ReduceFault → Type 0
 Turns whole next budget around (Ok (Stepped made)) = (budget ≡ true) × (next ≡ Some (around made))

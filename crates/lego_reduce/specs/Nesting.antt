@@ -1,42 +1,29 @@
 -- What the normalisation of a part within other parts answers.
-use Rattle.std.specs.Prelude.{◌≡◌, ℕ, ◌+◌, ◌<◌, ◌≤◌, Bool, true, false, Option, Some, None, Result, Ok, Err}
-use Rattle.lego_term.specs.Trees.{Core, Pi, Lam, Sigma, Fst, Snd, Bodies, depth}
+use Rattle.std.specs.Prelude.{◌≡◌, ℕ, zero, suc, ◌+◌, ◌≤◌, Option, Some, None, List, [], ◌∷◌, Result, Ok, Err}
+use Rattle.lego_term.specs.Trees.{Core, Bodies, depth}
 use Rattle.lego_term.specs.Sequences.{normal_step, after, MoreThan}
-use Rattle.lego_term.specs.Parts.{IsTooLarge}
+use Rattle.lego_term.specs.Parts.{Branch, IsTooLarge}
 use Rattle.lego_term.specs.declared.binder.Binder.{Binder}
 use Rattle.lego_term.specs.declared.binder.Mark.{Mark}
 use Rattle.lego_term.specs.declared.level.Level.{Level}
 use Rattle.lego_reduce.specs.declared.fault.ReduceFault.{ReduceFault}
 use Rattle.lego_reduce.specs.declared.fault.ReduceFault.TheVariants.{Budget, TooLarge, Memory}
-use Rattle.lego_reduce.specs.declared.normal_form.Reached.{Reached}
-use Rattle.lego_reduce.specs.declared.normal_form.Binding.{Binding}
-use Rattle.lego_reduce.specs.declared.normal_form.Binding.TheVariants as binding
-use Rattle.lego_reduce.specs.declared.normal_form.Projection.{Projection}
-use Rattle.lego_reduce.specs.declared.normal_form.Projection.TheVariants as projection
+use Rattle.lego_reduce.specs.declared.head_form.Reduced.{Reduced}
 
-abbrev pub bound : Binding → Binder → Core → Core → Core
-bound binding.Pi x a b = Pi x a b
-bound binding.Lam x a b = Lam x a b
-bound binding.Sigma x a b = Sigma x a b
+-- so many parts at the front have no step
+abbrev pub NormalBefore : Bodies Binder Mark Level → ℕ → List Branch → Type 0
+NormalBefore bodies zero ps = Unit {0}
+NormalBefore bodies (suc n) [] = Unit {0}
+NormalBefore bodies (suc n) (p ∷ ps) = (normal_step bodies p.term ≡ None) × NormalBefore bodies n ps
 
-abbrev pub projected : Projection → Core → Core
-projected projection.First m = Fst m
-projected projection.Second m = Snd m
-
--- the term within so many parts is too deep, or it has no next step
-abbrev pub Stands : (Core → Option Core) → ℕ → Core → Bool → Type 0
-Stands next nest u true = 2000 < nest + depth u
-Stands next nest u false = next u ≡ None
-
--- the term that the sequence reaches; a part behind one that is too deep stays as it is
-abbrev pub Arrives : (Core → Option Core) → Core → ℕ → ℕ → Bool → Core → ℕ → Bool → Type 0
-Arrives next t limit nest true u steps deep = (u ≡ t) × (steps ≡ 0) × (deep ≡ true)
-Arrives next t limit nest false u steps deep = (after next steps t ≡ Some u) × (steps ≤ limit) × Stands next nest u deep
+-- the term that the sequence reaches, which has no next step unless it is too deep within so many parts
+abbrev pub Arrives : (Core → Option Core) → Core → ℕ → ℕ → Core → ℕ → Type 0
+Arrives next t limit nest u steps = (after next steps t ≡ Some u) × (steps ≤ limit) × (nest + depth u ≤ 2000 → next u ≡ None)
 
 -- what is answered for a part: the term that is reached, or why none is
-abbrev pub Goes : Bodies Binder Mark Level → Core → ℕ → ℕ → Bool → Result Reached ReduceFault → Type 0
-Goes bodies t limit nest skip (Ok reached) = Arrives (normal_step bodies) t limit nest skip reached.term reached.steps reached.is_deep
-Goes bodies t limit nest skip (Err Budget) = (skip ≡ false) × MoreThan (normal_step bodies) t limit
-Goes bodies t limit nest skip (Err (TooLarge nodes levels)) =
-    (skip ≡ false) × ((n : ℕ) × (u : Core) × (n ≤ limit) × (after (normal_step bodies) n t ≡ Some u) × IsTooLarge u nodes levels)
-Goes bodies t limit nest skip (Err Memory) = Unit {0}
+abbrev pub Goes : Bodies Binder Mark Level → Core → ℕ → ℕ → Result Reduced ReduceFault → Type 0
+Goes bodies t limit nest (Ok reduced) = Arrives (normal_step bodies) t limit nest reduced.term reduced.steps
+Goes bodies t limit nest (Err Budget) = MoreThan (normal_step bodies) t limit
+Goes bodies t limit nest (Err (TooLarge nodes levels)) =
+    (n : ℕ) × (u : Core) × (n ≤ limit) × (after (normal_step bodies) n t ≡ Some u) × IsTooLarge u nodes levels
+Goes bodies t limit nest (Err Memory) = Unit {0}

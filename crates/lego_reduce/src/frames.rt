@@ -71,6 +71,6 @@ pub(crate) fn unwound(term: &Term, frames: &mut Frames) -> Result<Term, AllocErr
         }
         Node::Var(_) | Node::Const(_) | Node::Prop | Node::Univ(_) => term.share(),
         Node::Pi(_, _, _) | Node::Lam(_, _, _) | Node::Sigma(_, _, _) => term.share(),
-        Node::Pair(_, _, _, _, _) => term.share(),
+        Node::Pair(_, _, _, _, _) | Node::Local(_, _, _) => term.share(),
     }
 }

@@ -1,9 +1,9 @@
 //! The head form, by substitution.
-ghost use Rattle.std.specs.Prelude.{◌≡◌, ◌+◌, ◌^◌, ◌<◌, ◌≤◌, IfOk, None};
+ghost use Rattle.std.specs.Prelude.{◌≡◌, ◌+◌, ◌^◌, ◌<◌, ◌≤◌, length, IfOk, OnOk, None};
 ghost use Rattle.lego_term.specs.Trees.{loose, depth};
 ghost use Rattle.lego_term.specs.Sequences.{head_step};
 ghost use Rattle.lego_term.specs.BodyMap.{bodies_in, AreClosed};
-ghost use Rattle.lego_reduce.specs.Frames.{plug, plug_one, contract_one, IsHead, Turns, StaysWithin};
+ghost use Rattle.lego_reduce.specs.Frames.{plug, plug_one, contract_one, IsHead, Contracted, Turns, StaysWithin};
 ghost use Rattle.lego_reduce.specs.Reduction.{Reduces};
 
 use crate::fault::ReduceFault;
@@ -85,9 +85,8 @@ fn next_turn(
     requires room { loose (plug frames.old.items inner) ≤ 2 ^ 30 }
     ensures { Turns (plug frames.old.items inner) (head_step (bodies_in bodies.now) (plug frames.old.items inner)) has_budget (plug frames.new.items) result }
 {
-    match unfolded(bodies, &inner)? {
-        Some(_) if !has_budget => Err(ReduceFault::Budget),
-        Some(body) => Ok(Turn::Stepped(body)),
+    match contracted(alloc, bodies, &inner, has_budget)? {
+        Some(made) => Ok(Turn::Stepped(made)),
         None => match frames.pop() {
             Some(frame) => met(alloc, &inner, &frame, has_budget),
             None => Ok(Turn::Stopped(inner)),
@@ -95,16 +94,25 @@ fn next_turn(
     }
 }
 
-/// The body of a head that is a constant with a body.
-fn unfolded(bodies: &Bodies, inner: &Term) -> Result<Option<Term>, AllocError>
-    requires { IsHead inner.now }
-    ensures { IfOk result (λ body. body ≡ head_step (bodies_in bodies.now) inner.now) }
+/// What a head goes to, where it is a constant with a body or a local definition.
+fn contracted(
+    alloc: Global,
+    bodies: &Bodies,
+    inner: &Term,
+    has_budget: bool,
+) -> Result<Option<Term>, ReduceFault>
+    requires head { IsHead inner.now }
+    requires room { loose inner.now ≤ 2 ^ 30 }
+    ensures { Contracted (head_step (bodies_in bodies.now) inner.now) has_budget result }
 {
     match inner.view() {
         Node::Const(number) => match bodies.get(number) {
+            Some(_) if !has_budget => Err(ReduceFault::Budget),
             Some(body) => Ok(Some(body.share()?)),
             None => Ok(None),
         },
+        Node::Local(_, _, _) if !has_budget => Err(ReduceFault::Budget),
+        Node::Local(_, value, body) => Ok(Some(subst(alloc, body, value)?)),
         Node::Var(_) | Node::Prop | Node::Univ(_) => Ok(None),
         Node::Pi(_, _, _) | Node::Lam(_, _, _) | Node::Sigma(_, _, _) => Ok(None),
         Node::Pair(_, _, _, _, _) => Ok(None),
@@ -142,10 +150,12 @@ fn met(alloc: Global, inner: &Term, frame: &Frame, has_budget: bool) -> Result<T
 
 /// Refuses a term that is deeper than any term may be, so that the frames stay few.
 fn within_depth(alloc: Global, frames: &[Frame], term: &Term) -> Result<(), TermFault>
-    ensures { StaysWithin (plug frames.now term.now) result }
+    ensures refused { StaysWithin (plug frames.now term.now) result }
+    ensures few { OnOk result (length frames.now ≤ 2000) }
 {
     if frames.len() > MAX_DEPTH as usize {
-        rebuilt(alloc, frames, term)?;
+        let whole = rebuilt(alloc, frames, term)?;
+        let _depth = whole.depth();
     }
     Ok(())
 }

@@ -6,8 +6,6 @@ mod fault;
 mod frames;
 mod head_form;
 mod normal_form;
-#[cfg(test)]
-mod tests;
 
 pub use fault::ReduceFault;
 pub use head_form::{Reduced, head};

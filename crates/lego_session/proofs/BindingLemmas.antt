@@ -7,7 +7,7 @@ use Rattle.std.proofs.lemmas.List.Folds.{list_any-append}
 use Rattle.std.proofs.lemmas.Option.{slice_get_within}
 use Rattle.std.proofs.lemmas.Bool.{ltb-true, ltb-false}
 use mathlib.Core.Bool.{true≢false}
-use Rattle.lego_term.specs.Trees.{Core, Var, Const, Prop, Univ, Pi, Lam, App, Sigma, Pair, Fst, Snd}
+use Rattle.lego_term.specs.Trees.{Core, Var, Const, Prop, Univ, Pi, Lam, App, Sigma, Pair, Fst, Snd, Let}
 use Rattle.lego_term.specs.declared.binder.Mark.{Mark}
 use Rattle.lego_term.specs.declared.binder.Mark.TheVariants.{Plain}
 use Rattle.lego_kernel.specs.Assuming.{IsRefused, NoTypeIn}
@@ -16,8 +16,8 @@ use Rattle.lego_kernel.specs.Simple.{IsSimple, IsSimpleType}
 use Rattle.lego_kernel.specs.declared.entry.Entry.{Entry as Item}
 use Rattle.lego_kernel.specs.declared.fault.TypeFault.{TypeFault}
 use Rattle.lego_kernel.specs.declared.fault.TypeFault.TheVariants.{NotAType, Full, NameInUse, Memory}
-use Rattle.lego_session.specs.Steps.{IsNew, FirstAreNew, AreNew, assume_all}
-use Rattle.lego_session.specs.Binding.{AssumeFails, IsFront}
+use Rattle.lego_session.specs.commands.Bindings.{IsNew, FirstAreNew, AreNew, assume_all}
+use Rattle.lego_session.specs.private.Binding.{AssumeFails, IsFront}
 use Rattle.lego_base.proofs.NamesLemmas.{position_or_len-none}
 use Rattle.lego_session.proofs.TextLemmas.{next_item}
 
@@ -38,6 +38,7 @@ simple-push es e (Sigma x a b) s = absurd s
 simple-push es e (Pair x a b m n) s = absurd s
 simple-push es e (Fst m) s = absurd s
 simple-push es e (Snd m) s = absurd s
+simple-push es e (Let x m n) s = absurd s
 
 simple-all : (es : List Item) (m : Mark) (ns : List ℕ) (ty t : Core) → IsSimpleType es t → IsSimpleType (assume_all es m ns ty) t
 simple-all es m [] ty t s = s
@@ -59,6 +60,7 @@ simple-more i j (Sigma x a b) l s = absurd s
 simple-more i j (Pair x a b m n) l s = absurd s
 simple-more i j (Fst m) l s = absurd s
 simple-more i j (Snd m) l s = absurd s
+simple-more i j (Let x m n) l s = absurd s
 
 pub front-push : (old mid : List Item) (e : Item) → IsFront old mid → IsFront old (mid ++ e ∷ [])
 front-push old mid e f =

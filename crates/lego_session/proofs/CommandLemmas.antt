@@ -1,11 +1,8 @@
 -- From what the parser answers to what bytes are, and why they are no command.
 use Rattle.std.proofs.Common.{◌≡◌, ℕ, zero, suc, ◌<◌, ◌≤◌, List, [], ◌∷◌, ◌++◌, map, length, slice_get, Some, None, option_map, ◌⊎◌, inl, inr, refl, sym, ap, ◌∙◌, subst, arith, ◌≡◌, false}
-use Rattle.std.specs.Prelude.{Contains}
-use Rattle.std.proofs.lemmas.List.{append-nil}
-use Rattle.std.proofs.lemmas.List.Elements.{All-nil, All-weaker}
 use Rattle.std.proofs.lemmas.Option.{slice_get-map, get_or_from_slice_get}
 use Rattle.lego_base.specs.declared.place.Place.{Place}
-use Rattle.lego_lexer.specs.Tokens.{Name, OfSymbol, lexeme_of, Placed, Tokens, placed, Refused}
+use Rattle.lego_lexer.specs.Tokens.{OfSymbol, lexeme_of, Placed, Tokens, placed, Refused}
 use Rattle.lego_lexer.specs.declared.token.LexFault.{LexFault}
 use Rattle.lego_lexer.specs.declared.token.LexFault.TheVariants as Lex
 use Rattle.lego_lexer.specs.Commands.{CommandText, IsCommandText}
@@ -15,14 +12,16 @@ use Rattle.lego_lexer.specs.declared.token.TokenKind.TheVariants as Kind
 use Rattle.lego_lexer.specs.declared.token.Symbol.TheVariants.{Semicolon}
 use Rattle.lego_lexer.proofs.LastToken.{command_ends}
 use Rattle.lego_lexer.proofs.Ranges.{token_in_range}
-use Rattle.lego_grammar.specs.Grammar.{Names, Item, item, item_of, Nested, ReadsCommand, IsUnexpected, IsTooDeep}
-use Rattle.lego_grammar.specs.Parsing.{EndWithSemicolon, GrowsBy, ParsesTo, AreTooMany, IsNoCommand}
-use Rattle.lego_grammar.specs.Written.{Order}
-use Rattle.lego_grammar.specs.declared.fault.ParseFault.{ParseFault}
-use Rattle.lego_grammar.specs.declared.fault.ParseFault.TheVariants as Fault
-use Rattle.lego_session.specs.Commands.{grammar_tokens, Grows, IsNameOf, HasTokens, IsCommand, IsUnread, IsUnreadBy, lex_place, lex_cause}
+use Rattle.lego_grammar.specs.Grammar.{Names, Item, item, item_of, Nested, ReadsCommand}
+use Rattle.lego_grammar.specs.Refusals.{IsUnexpected, IsTooDeep}
+use Rattle.lego_parser.specs.Parsing.{EndWithSemicolon, ParsesTo, IsNoCommand}
+use Rattle.lego_grammar.specs.Written.{WrittenCommand}
+use Rattle.lego_parser.specs.declared.fault.ParseFault.{ParseFault}
+use Rattle.lego_parser.specs.declared.fault.ParseFault.TheVariants as Fault
+use Rattle.lego_parser.specs.Numbering.{names_behind, AreTooMany, IsFront, LeavesNames}
+use Rattle.lego_session.specs.Answers.{grammar_tokens, HasTokens, IsCommand, IsNumberedCommand, IsUnread, lex_place, lex_cause}
 use Rattle.lego_session.specs.Reading.{is_built}
-use Rattle.lego_session.specs.Unread.{HasItsToken, IsUnexpectedToken, IsNotParsed}
+use Rattle.lego_session.specs.private.Unread.{IsUnreadBy, HasItsToken, IsUnexpectedToken, IsNotParsed}
 use Rattle.lego_session.specs.declared.refusal.Cause.{Cause}
 use Rattle.lego_session.proofs.TokenLemmas.{tokens_apart}
 use Rattle.std.proofs.lemmas.Option.{same_Some}
@@ -53,25 +52,6 @@ token_range place bytes tokens n t lexed h =
     within_of [] i x e = cc
     within_of (y ∷ ys) zero x e = omega arith
     within_of (y ∷ ys) (suc i) x e = let l = within_of ys i x e in omega (arith, l)
-
-same_lexemes : (bytes : List ℕ) (tokens : List Token)
-    → map (λ (t : Item). t.lexeme) (map (item_of bytes) tokens) ≡ map (λ (t : Placed). t.lexeme) (map (placed bytes) tokens)
-same_lexemes bytes [] = refl
-same_lexemes bytes (t ∷ ts) = ap (λ xs. lexeme_of bytes t.kind t.from t.to ∷ xs) (same_lexemes bytes ts)
-
--- the numbering grows by names among the tokens, or not at all
-pub grown_by : {old new : Names} (place : Place) (bytes : List ℕ) (tokens : List Token)
-    → HasTokens (record { place = place; bytes = bytes }) (map (placed bytes) tokens) → GrowsBy (map (item_of bytes) tokens) old new
-    → Grows (record { place = place; bytes = bytes }) old new
-grown_by place bytes tokens lexed h = record {
-  more = h.more;
-  same = h.same;
-  from = All-weaker (λ text. Contains (map (λ (t : Item). t.lexeme) (map (item_of bytes) tokens)) (Name text)) (IsNameOf (record { place = place; bytes = bytes }))
-      (λ text held. (map (placed bytes) tokens, lexed, subst (λ ls. Contains ls (Name text)) (same_lexemes bytes tokens) held)) h.more h.from;
-}
-
-pub not_grown : (c : CommandText) (names : Names) → Grows c names names
-not_grown c names = record { more = []; same = sym (append-nil names); from = All-nil (IsNameOf c) }
 
 -- the last token of a command is its `;`
 is_semicolon : (bytes : List ℕ) (kind : TokenKind) (from to : ℕ) → lexeme_of bytes kind from to ≡ OfSymbol Semicolon → kind ≡ Kind.Symbol Semicolon
@@ -113,20 +93,30 @@ module _ {held left : Names} {c : CommandText} where
   moved {p} {q} {k} {l} e f h = subst (λ x. IsUnread held left c x k) (sym e) (subst (λ x. IsUnread held left c q x) (sym f) h)
 
 -- the command that the parser answers
-pub is_command : (names : Names) (place : Place) (bytes : List ℕ) (tokens : List Token) (o : Order)
+pub is_command : (names : Names) (place : Place) (bytes : List ℕ) (tokens : List Token) (o : WrittenCommand)
     → HasTokens (record { place = place; bytes = bytes }) (map (placed bytes) tokens) → ParsesTo names (map (item_of bytes) tokens) o
     → IsCommand names (record { place = place; bytes = bytes }) o
 is_command names place bytes tokens o lexed h =
     let parsed = subst (λ xs. ParsesTo names xs o) (sym (same_items bytes tokens)) h in
     record { tokens = map (placed bytes) tokens; lexed = lexed; parsed = parsed.parses; shallow = parsed.shallow }
 
+-- the command that the parser answers, with its names numbered
+pub numbered_command : (held names : Names) (place : Place) (bytes : List ℕ) (tokens : List Token) (o : WrittenCommand)
+    → HasTokens (record { place = place; bytes = bytes }) (map (placed bytes) tokens) → ParsesTo names (map (item_of bytes) tokens) o
+    → names ≡ names_behind held (map (item_of bytes) tokens) → IsNumberedCommand held names (record { place = place; bytes = bytes }) o
+unfolding is_command
+numbered_command held names place bytes tokens o lexed h same = record {
+  command = is_command names place bytes tokens o lexed h;
+  numbers = same ∙ ap (names_behind held) (sym (same_items bytes tokens));
+}
+
 -- why the tokens are no command, as it is answered
 pub not_parsed_unread : (held left : Names) (place : Place) (bytes : List ℕ) (tokens : List Token) (fault : ParseFault) (p : Place) (cause : Cause)
     → HasTokens (record { place = place; bytes = bytes }) (map (placed bytes) tokens) → IsNoCommand held (map (item_of bytes) tokens) fault
-    → IsNotParsed place bytes tokens fault p cause → IsUnreadBy held left (record { place = place; bytes = bytes }) p cause
+    → LeavesNames fault held (map (item_of bytes) tokens) left → IsNotParsed place bytes tokens fault p cause → IsUnreadBy held left (record { place = place; bytes = bytes }) p cause
 unfolding is_command
-not_parsed_unread held left place bytes tokens (Fault.Unexpected q) p cause lexed h (t, stands, inl memory) = inl memory
-not_parsed_unread held left place bytes tokens (Fault.Unexpected q) p cause lexed h (t, stands, inr is) =
+not_parsed_unread held left place bytes tokens (Fault.Unexpected q) p cause lexed h same (t, stands, inl memory) = inl memory
+not_parsed_unread held left place bytes tokens (Fault.Unexpected q) p cause lexed h same (t, stands, inr is) =
     let items = sym (same_items bytes tokens) in
     let x = mapped_at (item_of bytes) tokens h.0 h.1 h.2 in
     let at_q : x.0.place ≡ q = ap (λ (i : Item). i.place) x.2 ∙ h.3 in
@@ -137,40 +127,40 @@ not_parsed_unread held left place bytes tokens (Fault.Unexpected q) p cause lexe
     ap (slice_get (map (placed bytes) tokens)) one ∙ placed_at bytes tokens stands.index t stands.there in
     let unexpected = subst (λ xs. IsUnexpected xs h.0) items h.4 in
     let shallow = subst (λ (xs : List Item). (i : ℕ) → IsTooDeep xs i → ⊥) items h.5 in
-    inr (moved is.0 is.1 (IsUnread.unexpected h.0 lexed unexpected there shallow))
-not_parsed_unread held left place bytes tokens (Fault.TooDeep q) p cause lexed h k =
+    inr (moved is.0 is.1 (IsUnread.unexpected h.0 same lexed unexpected there shallow))
+not_parsed_unread held left place bytes tokens (Fault.TooDeep q) p cause lexed h same k =
     let x = mapped_at (item_of bytes) tokens h.0 h.1 h.2 in
     let at_q : x.0.place ≡ q = ap (λ (i : Item). i.place) x.2 ∙ h.3 in
     let deep = subst (λ xs. IsTooDeep xs h.0) (sym (same_items bytes tokens)) h.4 in
-    inr (moved (k.0 ∙ sym at_q) k.1 (IsUnread.too_deep h.0 lexed deep (placed_at bytes tokens h.0 x.0 x.1)))
-not_parsed_unread held left place bytes tokens Fault.NamesFull p cause lexed h k =
+    inr (moved (k.0 ∙ sym at_q) k.1 (IsUnread.too_deep h.0 same lexed deep (placed_at bytes tokens h.0 x.0 x.1)))
+not_parsed_unread held left place bytes tokens Fault.NamesFull p cause lexed h same k =
     let command = is_command h.0 place bytes tokens h.1 lexed h.2 in
     let many = subst (AreTooMany held) (sym (same_items bytes tokens)) h.3 in
-    inr (moved k.0 k.1 (IsUnread.names_full command many))
-not_parsed_unread held left place bytes tokens Fault.Memory p cause lexed h k = inl k
+    inr (moved k.0 k.1 (IsUnread.names_full command many same.0 (subst (λ xs. IsFront left (names_behind held xs)) (sym (same_items bytes tokens)) same.1)))
+not_parsed_unread held left place bytes tokens Fault.Memory p cause lexed h same k = inl k
 
 -- a command has a first token
-pub first_token : (names : Names) (bytes : List ℕ) (tokens : List Token) (o : Order) → ParsesTo names (map (item_of bytes) tokens) o
+pub first_token : (names : Names) (bytes : List ℕ) (tokens : List Token) (o : WrittenCommand) → ParsesTo names (map (item_of bytes) tokens) o
     → slice_get tokens 0 ≡ None → ⊥
 first_token names bytes [] o h e = empty h.parses.reads h.parses.same
   where
-    empty : {ts : List Nested} {c : Order} → ReadsCommand names ts c → map item ts ≡ [] → ⊥
+    empty : {ts : List Nested} {c : WrittenCommand} → ReadsCommand names ts c → map item ts ≡ [] → ⊥
     empty (ReadsCommand.command p act) same = cc
 first_token names bytes (t ∷ ts) o h e = cc
 
 -- a command whose form is not built is refused at its first token
-pub unbuilt_unread : (held left : Names) (place : Place) (bytes : List ℕ) (tokens : List Token) (o : Order) (t : Token) (p : Place) (cause : Cause)
+pub unbuilt_unread : (held left : Names) (place : Place) (bytes : List ℕ) (tokens : List Token) (o : WrittenCommand) (t : Token) (p : Place) (cause : Cause)
     → HasTokens (record { place = place; bytes = bytes }) (map (placed bytes) tokens) → ParsesTo left (map (item_of bytes) tokens) o
-    → is_built o.deed ≡ false → slice_get tokens 0 ≡ Some t → IsUnexpectedToken bytes t p cause
+    → left ≡ names_behind held (map (item_of bytes) tokens) → is_built o.act ≡ false → slice_get tokens 0 ≡ Some t → IsUnexpectedToken bytes t p cause
     → IsUnreadBy held left (record { place = place; bytes = bytes }) p cause
-unfolding is_command
-unbuilt_unread held left place bytes tokens o t p cause lexed h built there (inl memory) = inl memory
-unbuilt_unread held left place bytes tokens o t p cause lexed h built there (inr is) =
-    inr (moved is.0 is.1 (IsUnread.unbuilt (is_command left place bytes tokens o lexed h) built (placed_at bytes tokens 0 t there)))
+unfolding is_command numbered_command
+unbuilt_unread held left place bytes tokens o t p cause lexed h same built there (inl memory) = inl memory
+unbuilt_unread held left place bytes tokens o t p cause lexed h same built there (inr is) =
+    inr (moved is.0 is.1 (IsUnread.unbuilt (numbered_command held left place bytes tokens o lexed h same) built (placed_at bytes tokens 0 t there)))
 
 -- why the bytes have no tokens
-pub not_lexed_unread : (held left : Names) (place : Place) (bytes : List ℕ) (fault : LexFault) (p : Place) (cause : Cause)
+pub not_lexed_unread : (held : Names) (place : Place) (bytes : List ℕ) (fault : LexFault) (p : Place) (cause : Cause)
     → length bytes ≤ 65536 → (fault ≡ Lex.Memory) ⊎ Refused place bytes fault → p ≡ lex_place fault place → cause ≡ lex_cause fault
-    → IsUnreadBy held left (record { place = place; bytes = bytes }) p cause
-not_lexed_unread held left place bytes fault p cause short (inl memory) at is = inl (is ∙ ap lex_cause memory)
-not_lexed_unread held left place bytes fault p cause short (inr refused) at is = inr (moved at is (IsUnread.lex short refused))
+    → IsUnreadBy held held (record { place = place; bytes = bytes }) p cause
+not_lexed_unread held place bytes fault p cause short (inl memory) at is = inl (is ∙ ap lex_cause memory)
+not_lexed_unread held place bytes fault p cause short (inr refused) at is = inr (moved at is (IsUnread.lex refl short refused))

@@ -1,5 +1,5 @@
 -- Commands among the bytes of a script, from the lexer's cuts.
-use Rattle.std.proofs.Common.{◌≡◌, ℕ, ◌+◌, ◌-◌, ◌<◌, ◌≤◌, Bool, true, false, nat_eq, List, [], ◌∷◌, ◌++◌, length, take, drop, refl, sym, ap, ◌∙◌, subst, inl, inr, arith, append_assoc, length-append, length-drop, length-take}
+use Rattle.std.proofs.Common.{◌≡◌, ℕ, ◌+◌, ◌-◌, ◌<◌, ◌≤◌, Bool, true, false, nat_eq, nat_lt, List, [], ◌∷◌, ◌++◌, length, take, drop, refl, sym, ap, ◌∙◌, subst, inl, inr, arith, append_assoc, length-append, length-drop, length-take}
 use Rattle.std.specs.Prelude.{slice_range, if◌then◌else◌, ◌⊎◌}
 use Rattle.std.proofs.Math.Seq.{take-append_seam, drop-append_seam, take-append-add}
 use Rattle.std.proofs.lemmas.List.{drop-drop}
@@ -7,10 +7,11 @@ use Rattle.lego_base.specs.Place.{past, behind}
 use Rattle.lego_base.specs.declared.place.Place.{Place}
 use Rattle.lego_base.proofs.PlaceLemmas.{behind-append}
 use Rattle.lego_lexer.specs.Bytes.{Gap, BeginsToken}
-use Rattle.lego_lexer.specs.Commands.{CommandText, IsCommandText, Cuts, Ending, Whole, Unended, OpenComment, IsCut, Unbroken}
+use Rattle.lego_lexer.specs.Commands.{CommandText, IsCommandText, First, Begins, Cuts, Ending, Whole, Unended, OpenComment, IsCut, Unbroken, command_cut, cut_of}
+use Rattle.lego_lexer.specs.declared.limits.TheConstants.{MAX_COMMAND}
 use Rattle.lego_lexer.specs.declared.token.Cut as Code
 use Rattle.lego_lexer.specs.declared.token.Cut.TheVariants as Cut
-use Rattle.lego_session.specs.Progress.{IsNear, IsCommandAt}
+use Rattle.lego_session.specs.private.Progress.{IsNear, IsCommandAt}
 
 -- a place goes on by at most as many as bytes are passed
 near-past : (p : Place) (byte n : ℕ) → IsNear p n → IsNear (past p byte) (n + 1)
@@ -62,24 +63,36 @@ Shows from bytes (Cut.LongCommand start end) = IsTerminated from bytes start end
 front : (from : ℕ) (bytes more : List ℕ) → take (from + length bytes - from) (bytes ++ more) ≡ bytes
 front from bytes more = let n : from + length bytes - from ≡ length bytes = omega arith in rw n (take-append_seam bytes more)
 
-pub shows : {from : ℕ} {bytes : List ℕ} {cut : Code.Cut} → IsCut from bytes cut → Shows from bytes cut
-shows (IsCut.blank g) = λ p. Cuts.whole g
-shows {from} (IsCut.unended {gap = gap} {body = body} g u b) =
+command_shows : (from : ℕ) (gap body bytes : List ℕ) → Gap gap → Unbroken body → BeginsToken (body ++ 59 ∷ bytes)
+    → Shows from (gap ++ body ++ 59 ∷ bytes) (command_cut (from + length gap) (from + length gap + length body + 1))
+command_shows from gap body bytes g u b = by_test (nat_lt (from + length gap + MAX_COMMAND) (from + length gap + length body + 1))
+  where
+    there : IsTerminated from (gap ++ body ++ 59 ∷ bytes) (from + length gap) (from + length gap + length body + 1)
+    there = record { gap = gap; body = body; rest = bytes; parts = append_assoc gap body (59 ∷ bytes); starts = refl; ends = refl; blank = g; unbroken = u; begins = b }
+
+    by_test : (t : Bool) → Shows from (gap ++ body ++ 59 ∷ bytes)
+        (if t then Cut.LongCommand (from + length gap) (from + length gap + length body + 1) else Cut.Command (from + length gap) (from + length gap + length body + 1))
+    by_test true = there
+    by_test false = there
+
+first_shows : (from : ℕ) {bytes : List ℕ} {first : First} → Begins bytes first → Shows from bytes (cut_of from first)
+first_shows from (Begins.blank g) = λ p. Cuts.whole (Begins.blank g)
+first_shows from (Begins.unended {gap = gap} {body = body} g u b) =
     record {
       after = omega arith;
       within = omega (arith, length-append gap body);
-      cuts = λ p. subst (λ (f : List ℕ). Cuts p (gap ++ body) [] (Unended (behind p f))) (sym (front from gap body)) (Cuts.unended g u b);
+      cuts = λ p. subst (λ (f : List ℕ). Cuts p (gap ++ body) [] (Unended (behind p f))) (sym (front from gap body)) (Cuts.unended (Begins.unended g u b));
     }
-shows {from} (IsCut.open_comment {body = body} {comment = comment} u o) =
+first_shows from (Begins.open_comment {front = body} {comment = comment} u o) =
     record {
       after = omega arith;
       within = omega (arith, length-append body comment);
-      cuts = λ p. subst (λ (f : List ℕ). Cuts p (body ++ comment) [] (OpenComment (behind p f))) (sym (front from body comment)) (Cuts.open_comment u o);
+      cuts = λ p. subst (λ (f : List ℕ). Cuts p (body ++ comment) [] (OpenComment (behind p f))) (sym (front from body comment)) (Cuts.open_comment (Begins.open_comment u o));
     }
-shows (IsCut.command {gap = gap} {body = body} bytes g u b short) =
-    record { gap = gap; body = body; rest = bytes; parts = append_assoc gap body (59 ∷ bytes); starts = refl; ends = refl; blank = g; unbroken = u; begins = b }
-shows (IsCut.long_command {gap = gap} {body = body} bytes g u b long) =
-    record { gap = gap; body = body; rest = bytes; parts = append_assoc gap body (59 ∷ bytes); starts = refl; ends = refl; blank = g; unbroken = u; begins = b }
+first_shows from (Begins.command {gap = gap} {body = body} {bytes = bytes} g u b) = command_shows from gap body bytes g u b
+
+pub shows : {from : ℕ} {bytes : List ℕ} {cut : Code.Cut} → IsCut from bytes cut → Shows from bytes cut
+shows {from} {bytes} h = subst (λ c. Shows from bytes c) (sym h.is) (first_shows from h.begins)
 
 -- what stands behind a command's `;` doesn't matter to its begin
 semicolon_begins : (rest : List ℕ) → BeginsToken (59 ∷ rest)
@@ -149,7 +162,7 @@ module _ (bytes : List ℕ) (at start end : ℕ) (inside : at ≤ length bytes) 
         sym (behind-append place t.gap (t.body ++ 59 ∷ [])) ∙ ap (behind place) (sym (append_assoc t.gap t.body (59 ∷ []))) in
         let next : Cuts (behind place (t.gap ++ t.body ++ 59 ∷ [])) rest others ending = subst (λ (p : Place). Cuts p rest others ending) place_is k in
         subst (λ (ys : List ℕ). Cuts place ys (record { place = behind place t.gap; bytes = t.body ++ 59 ∷ [] } ∷ others) ending) joined
-        (Cuts.command t.blank t.unbroken (begins_so t.body t.rest rest t.begins) next)
+        (Cuts.command (Begins.command t.blank t.unbroken (begins_so t.body t.rest rest t.begins)) next)
 
     pub command_there : IsCommandAt bytes at place here start end
     command_there =

@@ -9,12 +9,12 @@ use Rattle.lego_lexer.specs.declared.token.Symbol.TheVariants.{OpenSquare, Close
 use Rattle.lego_lexer.proofs.LexLemmas.{reads_join}
 use Rattle.lego_lexer.proofs.TokenLemmas.{symbol_longest}
 use Rattle.lego_grammar.specs.Grammar.{Names, Nested, Item as Token, Term, item, symbol, token, NameList, ReadsBinding, ReadsBindings, ReadsAct, ReadsCommand}
-use Rattle.lego_grammar.specs.Written.{Assumed, Deed}
+use Rattle.lego_grammar.specs.Written.{Assumed, WrittenAct}
 use Rattle.lego_kernel.specs.declared.entry.Entry.{Entry as Item}
-use Rattle.lego_session.specs.Commands.{grammar_tokens}
+use Rattle.lego_session.specs.Answers.{grammar_tokens}
 use Rattle.lego_session.specs.Denotes.{Declares}
 use Rattle.lego_session.specs.Names.{IsHeldName}
-use Rattle.lego_session.proofs.DenotesPrintable.{IsPlain}
+use Rattle.lego_session.specs.private.Printable.{IsPlain}
 use Rattle.lego_session.proofs.DenotesTexts.{IsQuiet, name_text_is, name_begins, begins_there, byte_unbroken}
 use Rattle.lego_session.proofs.DenotesTypes.{here, after, lex_one, same_join, stops_at, name_lexeme, IsTypeRead}
 use Rattle.lego_session.proofs.TokenLemmas.{name_form}
@@ -91,7 +91,7 @@ module _ (names : Names) (before : List Item) (place : Place) (n : ℕ) (h : IsH
   entry_declared number plain is_named = record {
     order = record {
       place = place;
-      deed = Deed.Bindings (record { place = place; places = (behind_open place).place ∷ []; names = n ∷ []; says = Assumed Plain r.written } ∷ []);
+      act = WrittenAct.Bindings (record { place = place; places = (behind_open place).place ∷ []; names = n ∷ []; kind = Assumed Plain r.written } ∷ []);
     };
     reads = record {
       tokens = the_tokens;
@@ -108,7 +108,7 @@ module _ (names : Names) (before : List Item) (place : Place) (n : ℕ) (h : IsH
             (ReadsBinding.assume place (behind_name place h.text).place r.end.place (NameList.one h.held) r.parsed)));
       };
     };
-    binding = record { place = place; places = (behind_open place).place ∷ []; names = n ∷ []; says = Assumed Plain r.written };
+    binding = record { place = place; places = (behind_open place).place ∷ []; names = n ∷ []; kind = Assumed Plain r.written };
     binds = refl;
     name = n;
     names_it = refl;

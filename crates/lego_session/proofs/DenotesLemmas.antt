@@ -1,24 +1,27 @@
 -- The text of a development reads back as its entries.
 use Rattle.std.proofs.Common.{◌≡◌, ℕ, suc, List, [], ◌∷◌, ◌++◌, length, Some, refl, sym, ap, ◌∙◌, subst, arith, append_assoc, length-append}
-use Rattle.std.specs.Prelude.{All}
+use Rattle.std.specs.Prelude.{All, Option}
+use Rattle.lego_session.specs.Texts.{first_place}
 use Rattle.std.specs.List.{flat_map}
 use Rattle.std.proofs.lemmas.List.Elements.{All-head, All-tail}
 use Rattle.lego_base.specs.Place.{behind}
 use Rattle.lego_base.specs.declared.place.Place.{Place}
 use Rattle.lego_lexer.specs.Bytes.{Gap}
-use Rattle.lego_lexer.specs.Commands.{CommandText, Cuts, Whole, Unbroken}
+use Rattle.lego_lexer.specs.Commands.{CommandText, Begins, Cuts, Whole, Unbroken}
 use Rattle.lego_lexer.specs.Tokens.{OfWord, OfSymbol, Reads as Lexes, start}
 use Rattle.lego_lexer.specs.declared.token.Word.TheVariants as Word
 use Rattle.lego_lexer.specs.declared.token.Symbol.TheVariants.{Semicolon}
 use Rattle.lego_lexer.proofs.TokenLemmas.{name_longest, symbol_longest}
 use Rattle.lego_grammar.specs.Grammar.{Names, symbol, word, ReadsAct, ReadsCommand, LoneWord}
-use Rattle.lego_grammar.specs.Written.{Deed}
+use Rattle.lego_grammar.specs.Written.{WrittenAct}
 use Rattle.lego_kernel.specs.Contexts.{IsContext, AreSimple}
 use Rattle.lego_kernel.specs.Simple.{IsSimple}
+use Rattle.lego_kernel.proofs.PureLemmas.{holds_purely}
 use Rattle.lego_kernel.specs.declared.entry.Entry.{Entry as Item}
 use Rattle.lego_session.specs.Denotes.{ReadsAs, DeclareAll, Denotes}
-use Rattle.lego_session.specs.Names.{IsHeldName, AreKnown}
-use Rattle.lego_session.proofs.DenotesPrintable.{IsPlain, IsPrintable}
+use Rattle.lego_session.specs.Headline.{Headline}
+use Rattle.lego_session.specs.Names.{IsHeldName, IsHeldWhere, AreKnown}
+use Rattle.lego_session.specs.private.Printable.{IsPlain, IsPrintable, AreNamed}
 use Rattle.lego_session.specs.Texts.{entry_command, type_text, development_text}
 use Rattle.lego_session.proofs.DenotesEntries.{body_of, body_unbroken, entry_declared}
 use Rattle.lego_session.proofs.DenotesNames.{constant_is, printed_name}
@@ -34,7 +37,7 @@ explicit_unbroken =
     byte_unbroken 69 _ refl refl (byte_unbroken 120 _ refl refl (byte_unbroken 112 _ refl refl (byte_unbroken 108 _ refl refl
     (byte_unbroken 105 _ refl refl (byte_unbroken 99 _ refl refl (byte_unbroken 105 _ refl refl (byte_unbroken 116 _ refl refl Unbroken.none)))))))
 
-explicit_read : (names : Names) (place : Place) → ReadsAs names (record { place = place; bytes = explicit_bytes ++ 59 ∷ [] }) (record { place = place; deed = Deed.Explicit })
+explicit_read : (names : Names) (place : Place) → ReadsAs names (record { place = place; bytes = explicit_bytes ++ 59 ∷ [] }) (record { place = place; act = WrittenAct.Explicit })
 explicit_read names place =
     let next = after (start place) explicit_bytes in
     record {
@@ -67,7 +70,7 @@ record AreDeclared (names : Names) (es before entries : List Item) (p : Place) :
   cut : Cuts p (10 ∷ flat_map (entry_command names es) entries) commands Whole
   declares : DeclareAll names before commands entries
 
-module _ (names : Names) (es : List Item) (simple : AreSimple 0 es) (known : AreKnown names es) (printable : IsPrintable es) where
+module _ (names : Names) (es : List Item) (simple : AreSimple 0 es) (known : AreNamed names es) (printable : IsPrintable es) where
   one_more : (e : Item) (before rest : List Item) → es ≡ before ++ e ∷ rest → e.number ≡ length before
       → IsSimple (length before) e.ty → IsPlain e → (n : ℕ) × (e.name ≡ Some n) × IsHeldName names n → (p : Place)
       → ((q : Place) → AreDeclared names es (before ++ e ∷ []) rest q) → AreDeclared names es before (e ∷ rest) p
@@ -89,13 +92,13 @@ module _ (names : Names) (es : List Item) (simple : AreSimple 0 es) (known : Are
       record {
         commands = record { place = q; bytes = body ++ 59 ∷ [] } ∷ tail.commands;
         cut = subst (λ (xs : List ℕ). Cuts p xs (record { place = q; bytes = body ++ 59 ∷ [] } ∷ tail.commands) Whole) line
-            (Cuts.command newline unbroken begins tail.cut);
+            (Cuts.command (Begins.command newline unbroken begins) tail.cut);
         declares = DeclareAll.more (entry_declared names before q name.0 h text e r number plain name.1) tail.declares;
       }
 
-  all_declared : (entries before : List Item) → es ≡ before ++ entries → AreSimple (length before) entries → AreKnown names entries → All IsPlain entries
+  all_declared : (entries before : List Item) → es ≡ before ++ entries → AreSimple (length before) entries → AreNamed names entries → All IsPlain entries
       → (p : Place) → AreDeclared names es before entries p
-  all_declared [] before split numbers named plain p = record { commands = []; cut = Cuts.whole newline; declares = DeclareAll.none }
+  all_declared [] before split numbers named plain p = record { commands = []; cut = Cuts.whole (Begins.blank newline); declares = DeclareAll.none }
   all_declared (e ∷ rest) before split numbers named plain p =
       let longer : suc (length before) ≡ length (before ++ e ∷ []) = omega (arith, length-append before (e ∷ [])) in
       let parts : es ≡ (before ++ e ∷ []) ++ rest = split ∙ sym (append_assoc before (e ∷ []) rest) in
@@ -106,16 +109,29 @@ module _ (names : Names) (es : List Item) (simple : AreSimple 0 es) (known : Are
       (All-tail (λ (x : Item). (n : ℕ) × (x.name ≡ Some n) × IsHeldName names n) e rest named) (All-tail IsPlain e rest plain) q)
 
 -- what is printed denotes the entries, wherever it begins
-pub development_denotes : (names : Names) (es : List Item) (place : Place) → AreKnown names es → IsContext es → IsPrintable es
+pub development_denotes : (names : Names) (es : List Item) (place : Place) → AreNamed names es → IsContext es → IsPrintable es
     → Denotes names place (development_text names es) es
 development_denotes names es place known context printable =
     let d = all_declared names es context.simple known printable es [] refl context.simple known printable.plain (behind place (explicit_bytes ++ 59 ∷ [])) in
     record {
       first = record { place = place; bytes = explicit_bytes ++ 59 ∷ [] };
       commands = d.commands;
-      cut = Cuts.command Gap.none explicit_unbroken (begins_there 69 _ refl refl) d.cut;
-      order = record { place = place; deed = Deed.Explicit };
+      cut = Cuts.command (Begins.command Gap.none explicit_unbroken (begins_there 69 _ refl refl)) d.cut;
+      order = record { place = place; act = WrittenAct.Explicit };
       explicit = explicit_read names place;
       is_explicit = refl;
       declares = d.declares;
     }
+
+-- the entries have names, which are held
+named : (names : Names) (es : List Item) → AreKnown names es → IsPrintable es → AreNamed names es
+named names es known printable i d l =
+    let name = (printable.plain i d l).2 in
+    (name.0, name.1, subst (λ (n : Option ℕ). IsHeldWhere names n) name.1 (known i d l).0)
+
+-- where the names of printable entries are held, their development reads back as them
+pub is_headline : (names : Names) (es : List Item) → AreKnown names es → IsContext es → IsPrintable es → Headline names es
+is_headline names es known valid printable = record {
+  denotes = development_denotes names es first_place (named names es known printable) valid printable;
+  pure = λ v. holds_purely v es valid;
+}

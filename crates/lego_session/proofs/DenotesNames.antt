@@ -11,8 +11,8 @@ use Rattle.lego_grammar.specs.Grammar.{Names}
 use Rattle.lego_kernel.specs.Contexts.{AreSimple}
 use Rattle.lego_kernel.specs.Entries.{is_named, position_of}
 use Rattle.lego_kernel.specs.declared.entry.Entry.{Entry as Item}
-use Rattle.lego_session.specs.Names.{name_text, IsHeldName, AreKnown}
-use Rattle.lego_session.proofs.DenotesPrintable.{NamesDiffer}
+use Rattle.lego_session.specs.Names.{name_text, IsHeldName}
+use Rattle.lego_session.specs.private.Printable.{NamesDiffer, AreNamed}
 use Rattle.lego_session.specs.Texts.{entry_name, constant_text}
 
 pub all_at : {X : Type 0} (P : X → Type 0) (xs : List X) (k : ℕ) (x : X) → slice_get xs k ≡ Some x → All P xs → P x
@@ -82,7 +82,7 @@ pub printed_name : (names : Names) (e : Item) (n : ℕ) (h : IsHeldName names n)
 printed_name names e n h is =
     ap (λ (o : Option ℕ). unwrap_or (option_map (name_text names) o) []) is ∙ ap (λ (o : Option (List ℕ)). unwrap_or o []) h.held
 
-module _ (names : Names) (es before after : List Item) (split : es ≡ before ++ after) (simple : AreSimple 0 es) (known : AreKnown names es) (differ : NamesDiffer es) where
+module _ (names : Names) (es before after : List Item) (split : es ≡ before ++ after) (simple : AreSimple 0 es) (known : AreNamed names es) (differ : NamesDiffer es) where
   in_all : (k : ℕ) (e : Item) → slice_get before k ≡ Some e → slice_get es k ≡ Some e
   in_all k e h = ap (λ (xs : List Item). slice_get xs k) split ∙ front_at before after k e h
 

@@ -2,7 +2,7 @@
 use Rattle.std.proofs.Common.{◌≡◌, ◌≢◌, ℕ, ◌<◌, true, false, ◌&&◌, nat_eq, List, [], ◌∷◌, ◌++◌, refl, sym, ap, ◌∙◌, subst, arith, append_assoc}
 use Rattle.std.specs.List.{list_all}
 use Rattle.std.proofs.lemmas.Bool.Decides.{nat_tests}
-use Rattle.lego_term.specs.Trees.{Core, Var, Const, Prop, Univ, Pi, Lam, App, Sigma, Pair, Fst, Snd}
+use Rattle.lego_term.specs.Trees.{Core, Var, Const, Prop, Univ, Pi, Lam, App, Sigma, Pair, Fst, Snd, Let}
 use Rattle.lego_lexer.specs.Bytes.{begins_name, goes_on_in_name, begins_comment, is_blank, BeginsToken}
 use Rattle.lego_lexer.specs.Commands.{Unbroken}
 use Rattle.lego_lexer.specs.Tokens.{has_name_form}
@@ -118,3 +118,4 @@ module _ (names : Names) (es : List Item) (n : ℕ) (constants : (k : ℕ) → k
   quiet_type (Pair x a b m n) s = absurd s
   quiet_type (Fst m) s = absurd s
   quiet_type (Snd m) s = absurd s
+  quiet_type (Let x m n) s = absurd s

@@ -1,7 +1,7 @@
 -- The text of a type is lexed and read as the type.
 use Rattle.std.proofs.Common.{◌≡◌, ℕ, suc, ◌<◌, false, List, [], ◌∷◌, ◌++◌, map, length, Some, refl, sym, ap, ap₂, ◌∙◌, subst, append_assoc}
 use Rattle.std.proofs.lemmas.List.{map-append}
-use Rattle.lego_term.specs.Trees.{Core, Var, Const, Prop, Univ, Pi, Lam, App, Sigma, Pair, Fst, Snd}
+use Rattle.lego_term.specs.Trees.{Core, Var, Const, Prop, Univ, Pi, Lam, App, Sigma, Pair, Fst, Snd, Let}
 use Rattle.lego_term.specs.declared.binder.Binder.{Binder}
 use Rattle.lego_term.specs.declared.binder.Mark.TheVariants.{Plain}
 use Rattle.lego_lexer.specs.Bytes.{goes_on_in_name, BeginsToken, Gap}
@@ -15,8 +15,8 @@ use Rattle.lego_grammar.specs.Written.{Written, Named, WrittenProp, Bind}
 use Rattle.lego_grammar.specs.declared.surface.Kind.TheVariants as Kind
 use Rattle.lego_kernel.specs.Simple.{IsSimple}
 use Rattle.lego_kernel.specs.declared.entry.Entry.{Entry as Item}
-use Rattle.lego_session.specs.Commands.{grammar_tokens}
-use Rattle.lego_session.proofs.DenotesPrintable.{HasArrows}
+use Rattle.lego_session.specs.Answers.{grammar_tokens}
+use Rattle.lego_session.specs.private.Printable.{HasArrows}
 use Rattle.lego_session.specs.Reading.{ReadsType, arrow_binder}
 use Rattle.lego_session.specs.Texts.{constant_text, type_text}
 use Rattle.lego_session.proofs.DenotesNames.{ConstantIs}
@@ -184,3 +184,4 @@ module _ (names : Names) (es before : List Item) (constants : (k : ℕ) → k < 
   type_read (Pair x a b m n) s h = absurd s
   type_read (Fst m) s h = absurd s
   type_read (Snd m) s h = absurd s
+  type_read (Let x m n) s h = absurd s

@@ -3,10 +3,10 @@ pub mod TextLemmas
 pub mod BindingLemmas
 pub mod BindAllLemmas
 pub mod StepLemmas
-pub mod CutLemmas
+pub mod SessionLemmas
+pub mod DispatchLemmas
 pub mod TokenLemmas
 pub mod KnownLemmas
-pub mod DenotesPrintable
 pub mod DenotesTexts
 pub mod DenotesNames
 pub mod DenotesTypes
@@ -14,8 +14,9 @@ pub mod DenotesEntries
 pub mod DenotesLemmas
 pub mod PrintableLemmas
 pub mod PlacesLemmas
-pub mod OutcomeLemmas
-pub mod RunLemmas
 pub mod UnreadLemmas
 pub mod CommandLemmas
 pub mod AnswerLemmas
+pub mod CutLemmas
+pub mod RunLemmas
+pub mod OutcomeLemmas

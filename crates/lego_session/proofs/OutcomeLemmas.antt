@@ -4,27 +4,19 @@ use Rattle.std.specs.Prelude.{◌⊎◌}
 use Rattle.std.proofs.Math.Seq.{take-append-add}
 use Rattle.std.proofs.lemmas.Bool.{ltb-true, ltb-false, false≢true}
 use Rattle.std.proofs.lemmas.List.{take_all}
-use Rattle.std.proofs.lemmas.Option.{slice_get_within}
 use Rattle.std.specs.Io.KnownBytes.{Appends, Consumes, IsAtEnd}
 use Rattle.std.proofs.KnownBytes.{Appends-trans}
 use Rattle.lego_base.specs.Bytes.{AppendsFront}
 use Rattle.lego_base.specs.Causes.{Rose}
-use Rattle.lego_lexer.specs.Commands.{CommandText, Ending}
+use Rattle.lego_lexer.specs.Commands.{Ending}
 use Rattle.lego_grammar.specs.Grammar.{Names}
-use Rattle.lego_kernel.specs.Contexts.{IsContext}
-use Rattle.lego_kernel.specs.declared.entry.Entry.{Entry as Item}
-use Rattle.lego_kernel.proofs.PureLemmas.{holds_purely}
+use Rattle.lego_session.specs.Sessions.{Session, entries_of}
 use Rattle.lego_session.specs.Headline.{Headline}
-use Rattle.lego_session.specs.Names.{AreKnown}
 use Rattle.lego_session.specs.Outcomes.{Ended, AnswersFront, Broken, Overlong, Stopped, Outcome, IsAcceptable}
-use Rattle.lego_session.specs.Progress.{AreAnswered, Halted, Finished}
-use Rattle.lego_session.proofs.DenotesPrintable.{IsPrintable}
-use Rattle.lego_session.specs.Runs.{Run, Runs, first_place, answers_text, closing_text, refuses, is_ending_refused}
-use Rattle.lego_session.specs.Steps.{Reply}
+use Rattle.lego_session.specs.private.Progress.{AreAnswered, Halted, Finished}
+use Rattle.lego_session.specs.Runs.{Run, answers_text, closing_text, refuses, is_ending_refused}
 use Rattle.lego_session.specs.declared.status.Status.{Status}
 use Rattle.lego_session.specs.declared.status.Status.TheVariants.{Accepted, Refused, Usage, ReadFault, WriteFault, Memory, OpenProof, TooLong}
-use Rattle.lego_session.proofs.DenotesLemmas.{development_denotes}
-use Rattle.lego_session.proofs.PrintableLemmas.{answered_printable}
 
 -- the slice up to a length or a limit is the front up to that limit
 pub up_to : (n limit : ℕ) (slice items : List ℕ) → slice ≡ items → n ≡ min (length slice) limit → take n slice ≡ take limit items
@@ -37,29 +29,10 @@ up_to n limit slice items same is =
     go false e long = let l : length items ≤ limit = ltb-false limit (length items) e in
         take_all n slice (omega (arith, is, long)) ∙ (same ∙ sym (take_all limit items l))
 
-abbrev run_of : {bytes : List ℕ} {names : Names} {es : List Item} {refused : Bool} {ending : Ending} {t t1 : Option (List ℕ)}
+abbrev run_of : {bytes : List ℕ} {names : Names} {es : Session} {refused : Bool} {ending : Ending} {t t1 : Option (List ℕ)}
     → AreAnswered bytes names es refused ending t t1 → Run bytes
 run_of {names = names} {es = es} {ending = ending} h =
-    record { commands = h.commands; ending = ending; names = names; answers = h.answers; entries = es; cut = h.cut; runs = h.runs }
-
--- the entries that a run leaves are printable
-runs_printable : {held names : Names} {old new : List Item} {cs : List CommandText} {answers : List Reply}
-    → Runs held old cs answers names new → IsPrintable old → IsPrintable new
-runs_printable Runs.none p = p
-runs_printable (Runs.more h rest) p = runs_printable rest (answered_printable h p)
-
-none_printable : IsPrintable []
-none_printable = record {
-  apart = λ i j a b h k e. absurd (omega (arith, slice_get_within [] i a h));
-  plain = λ k d h. absurd (omega (arith, h));
-}
-
-headline : (names : Names) (es : List Item) {cs : List CommandText} {answers : List Reply}
-    → Runs [] [] cs answers names es → AreKnown names es → IsContext es → Headline names es
-headline names es runs known valid = record {
-  denotes = development_denotes names es first_place known valid (runs_printable runs none_printable);
-  pure = λ v. holds_purely v es valid;
-}
+    record { commands = h.commands; ending = ending; names = names; answers = h.answers; session = es; cut = h.cut; runs = h.runs }
 
 -- a fault within an answer, or no memory for one
 pub halted : (bytes read : List ℕ) (l l' t t1 : Option (List ℕ)) (before now : ℕ) (status : Status)
@@ -74,7 +47,7 @@ halted bytes read l l' t t1 before now OpenProof k e h = absurd h
 halted bytes read l l' t t1 before now TooLong k e h = absurd h
 
 -- all commands are answered
-module _ (bytes read : List ℕ) (l l' t t1 : Option (List ℕ)) (names : Names) (es : List Item) (refused : Bool) (ending : Ending)
+module _ (bytes read : List ℕ) (l l' t t1 : Option (List ℕ)) (names : Names) (es : Session) (refused : Bool) (ending : Ending)
     (k : Consumes l l' read) (e : bytes ≡ take 16777216 read) (answered : AreAnswered bytes names es refused ending t t1) where
   moved : (xs : List ℕ) → bytes ≡ xs → AreAnswered xs names es refused ending t t1
   moved xs same = subst (λ (ys : List ℕ). AreAnswered ys names es refused ending t t1) same answered
@@ -103,8 +76,8 @@ module _ (bytes read : List ℕ) (l l' t t1 : Option (List ℕ)) (names : Names)
     pub broken : Broken l l' t t1
     broken = let h = here in record { read = read; consumed = k; short = short; answers = record { run = run_of h; written = h.written } }
 
-    module _ (t2 : Option (List ℕ)) (z : IsAtEnd l') (known : AreKnown names es) where
-      ended : (flag : Bool) → Appends t1 t2 (closing_text names es ending) → IsContext es → (refused || is_ending_refused ending) ≡ flag → Ended l l' t t2 flag
+    module _ (t2 : Option (List ℕ)) (z : IsAtEnd l') where
+      ended : (flag : Bool) → Appends t1 t2 (closing_text names es ending) → Headline names (entries_of es) → (refused || is_ending_refused ending) ≡ flag → Ended l l' t t2 flag
       ended flag w valid is =
           let h = here in
           record {
@@ -115,7 +88,7 @@ module _ (bytes read : List ℕ) (l l' t t1 : Option (List ℕ)) (names : Names)
             run = run_of h;
             refusal = ap (λ b. b || is_ending_refused ending) h.refusal ∙ is;
             written = Appends-trans t t1 t2 _ _ h.written w;
-            headline = headline names es h.runs known valid;
+            headline = valid;
           }
 
       in_output : AppendsFront t1 t2 (closing_text names es ending) → Stopped l l' t t2

@@ -6,18 +6,19 @@ use Rattle.std.proofs.lemmas.List.Elements.{All-nil, All-push}
 use Rattle.std.proofs.lemmas.Option.{same_Some, slice_get_within}
 use Rattle.lego_term.specs.Trees.{Core}
 use Rattle.lego_term.specs.declared.binder.Mark.TheVariants.{Plain}
-use Rattle.lego_lexer.specs.Commands.{CommandText}
 use Rattle.lego_grammar.specs.Grammar.{Names}
-use Rattle.lego_grammar.specs.Written.{Written, Bound, Order}
+use Rattle.lego_grammar.specs.Written.{Written, WrittenBinding, WrittenCommand}
 use Rattle.lego_kernel.specs.Entries.{is_named, position_of, assumption}
 use Rattle.lego_kernel.specs.declared.entry.Entry.{Entry as Item}
-use Rattle.lego_session.specs.Commands.{Answers}
-use Rattle.lego_session.proofs.DenotesPrintable.{NamesDiffer, HasArrows, IsPlain, IsPrintable}
+use Rattle.lego_session.specs.private.Printable.{NamesDiffer, HasArrows, IsPlain, IsPrintable, IsPrintableSession}
 use Rattle.lego_session.specs.Reading.{ReadsType}
-use Rattle.lego_session.specs.Steps.{AreNew, assume_all, BindsAll, Step, Reply}
-use Rattle.lego_session.proofs.DenotesNames.{is_named_so, eq_self, lt_is}
+use Rattle.lego_session.specs.Sessions.{Session, empty_session}
+use Rattle.lego_session.specs.Step.{Step, Reply}
+use Rattle.lego_session.specs.commands.Bindings.{AreNew, assume_all, BindsAll}
+use Rattle.lego_session.proofs.SessionLemmas.{step-throughout, All-front}
+use Rattle.lego_session.proofs.DenotesNames.{is_named_so, eq_self, lt_is, front_at}
 
-pub none_printable : IsPrintable []
+none_printable : IsPrintable []
 none_printable = record { apart = λ i j a b h k e. absurd (cc); plain = All-nil IsPlain }
 
 -- a type that is read is made of arrows
@@ -74,7 +75,7 @@ module _ (es : List Item) (n : ℕ) (x : Item) (is : x.name ≡ Some n) (new : I
 one_more : (es : List Item) (n : ℕ) (ty : Core) → IsAbsent es n → HasArrows ty → IsPrintable es → IsPrintable (es ++ assumption es n Plain ty ∷ [])
 one_more es n ty new arrows p = record {
   apart = differ_more es n (assumption es n Plain ty) refl new p.apart;
-  plain = All-push IsPlain es (assumption es n Plain ty) p.plain (refl, arrows);
+  plain = All-push IsPlain es (assumption es n Plain ty) p.plain (refl, arrows, (n, refl));
 }
 
 -- an assumption of a new name, whose type was read
@@ -118,18 +119,22 @@ all_printable es (n ∷ ns) ty new arrows p =
     all_printable (es ++ x ∷ []) ns ty (absent_next es x n ns refl new) arrows (one_more es n ty (new 0 n refl).0 arrows p)
 
 -- the entries that bindings make
-pub bound_printable : {old new : List Item} {bs : List Bound} → BindsAll old bs new → IsPrintable old → IsPrintable new
+pub bound_printable : {old new : List Item} {bs : List WrittenBinding} → BindsAll old bs new → IsPrintable old → IsPrintable new
 bound_printable BindsAll.none p = p
 bound_printable (BindsAll.more {es = es} {b = b} h rest) p =
     bound_printable rest (subst IsPrintable (sym h.makes)
     (all_printable es b.names h.ty (new_absent es b.names h.read.new) (reads_arrows h.read.reads) p))
 
-step_printable : {names : Names} {old new : List Item} {o : Order} {a : Reply} → Step names old o a new → IsPrintable old → IsPrintable new
-step_printable (Step.accepted is h) p = bound_printable h p
-step_printable (Step.refused is h) p = p
+-- the first entries
+printable_front : (kept behind : List Item) → IsPrintable (kept ++ behind) → IsPrintable kept
+printable_front kept behind p = record {
+  apart = λ i j a b h k e. p.apart i j a b (front_at kept behind i a h) (front_at kept behind j b k) e;
+  plain = All-front IsPlain kept behind p.plain;
+}
 
--- a command that is answered leaves printable entries
-pub answered_printable : {held names : Names} {old new : List Item} {c : CommandText} {a : Reply}
-    → Answers held old c a names new → IsPrintable old → IsPrintable new
-answered_printable (Answers.step g differ command built h) p = step_printable h p
-answered_printable (Answers.unread g differ h) p = p
+pub step_printable : {names : Names} {limit : ℕ} {old new : Session} {o : WrittenCommand} {a : Reply} → Step names limit old o a new
+    → IsPrintableSession old → IsPrintableSession new
+step_printable {names} {limit} step p = step-throughout IsPrintable printable_front names limit (λ es es' binds before. bound_printable binds before) step p
+
+pub empty_printable : IsPrintableSession empty_session
+empty_printable = record { now = none_printable; before = tt }

@@ -8,7 +8,7 @@ use Rattle.lego_term.specs.Trees.{Core, Const, Prop, Pi}
 use Rattle.lego_term.specs.Made.{Fits}
 use Rattle.lego_term.specs.declared.binder.Mark.{Mark}
 use Rattle.lego_term.specs.declared.binder.Mark.TheVariants.{Plain, Implicit}
-use Rattle.lego_grammar.specs.Surface.{written, written_step, applied, projected, bound_of, says_of}
+use Rattle.lego_grammar.specs.Surface.{written, written_step, applied, projected, written_binding, written_kind}
 use Rattle.lego_grammar.specs.declared.command.Binding.{Binding}
 use Rattle.std.specs.List.{list_all}
 use Rattle.lego_grammar.specs.Written.{Written, Named, WrittenProp, Bind, Apply, Project}
@@ -22,7 +22,8 @@ use Rattle.lego_kernel.specs.Contexts.{AreSimple, IsContext}
 use Rattle.lego_kernel.specs.Entries.{position_of, is_named}
 use Rattle.lego_kernel.specs.Simple.{IsSimpleOver}
 use Rattle.lego_kernel.specs.declared.entry.Entry.{Entry as Item}
-use Rattle.lego_session.specs.Reading.{is_arrow, is_simple, is_simple_assumption, arrow_binder, ReadsType, FirstUnknown, FirstTooLarge, IsNotRead, IsReading, IsMade}
+use Rattle.lego_session.specs.Reading.{is_arrow, is_simple, is_simple_assumption, arrow_binder, ReadsType, Visits}
+use Rattle.lego_session.specs.private.Reading.{IsNotRead, IsReading, IsMade}
 use Rattle.lego_session.specs.Reading as reading
 use Rattle.lego_session.specs.declared.reading.ReadFault.{ReadFault}
 use Rattle.lego_session.specs.declared.reading.ReadFault.TheVariants.{NotBuilt, Unknown, TooLarge, Memory}
@@ -123,15 +124,15 @@ position_within (e ∷ es) n i h = (position-Some (is_named n) (e ∷ es) i e h)
 module _ (es : List Item) where
   pub domain_not_read : (w a b : Written) (fault : ReadFault) → w ≡ Bind Kind.Pi Plain [] a b → IsNotRead es a fault → IsNotRead es w fault
   domain_not_read w a b NotBuilt e h = ap is_simple e ∙ ap (λ x. x && is_simple b) h
-  domain_not_read w a b (Unknown p n) e h = subst (λ w. FirstUnknown es w p n) (sym e) (reading.FirstUnknown.domain h)
-  domain_not_read w a b (TooLarge i j) e h = subst (λ w. FirstTooLarge es w i j) (sym e) (reading.FirstTooLarge.domain h)
+  domain_not_read w a b (Unknown p n) e h = (subst (λ w. Visits es w (Named p n)) (sym e) (reading.Visits.domain h.0), h.1)
+  domain_not_read w a b (TooLarge i j) e h = (h.0, h.1, subst (λ w. Visits es w h.0) (sym e) (reading.Visits.domain h.2), h.3, h.4, h.5)
   domain_not_read w a b Memory e h = tt
 
   pub body_not_read : (w a b : Written) (c : Core) (fault : ReadFault) → w ≡ Bind Kind.Pi Plain [] a b → ReadsType es a c → Fits c
       → IsNotRead es b fault → IsNotRead es w fault
   body_not_read w a b c NotBuilt e r l h = ap is_simple e ∙ ap (λ x. is_simple a && x) h ∙ and_false (is_simple a)
-  body_not_read w a b c (Unknown p n) e r l h = subst (λ w. FirstUnknown es w p n) (sym e) (reading.FirstUnknown.body r l h)
-  body_not_read w a b c (TooLarge i j) e r l h = subst (λ w. FirstTooLarge es w i j) (sym e) (reading.FirstTooLarge.body r l h)
+  body_not_read w a b c (Unknown p n) e r l h = (subst (λ w. Visits es w (Named p n)) (sym e) (reading.Visits.body r l h.0), h.1)
+  body_not_read w a b c (TooLarge i j) e r l h = (h.0, h.1, subst (λ w. Visits es w h.0) (sym e) (reading.Visits.body r l h.2), h.3, h.4, h.5)
   body_not_read w a b c Memory e r l h = tt
 
   pub arrow_reads : (w a b : Written) (c d : Core) (result : Result Core ReadFault) → w ≡ Bind Kind.Pi Plain [] a b
@@ -141,8 +142,26 @@ module _ (es : List Item) where
     subst (λ t. IsSimpleOver es t) (sym m.0) (r.1, s.1),
     subst Fits (sym m.0) m.1,
   )
-  arrow_reads w a b c d (Err (TooLarge i j)) e r s m =
-      subst (λ w. FirstTooLarge es w i j) (sym e) (reading.FirstTooLarge.whole r.0 r.2 s.0 s.2 m.0 m.1 m.2)
+  arrow_reads w a b c d (Err (TooLarge i j)) e r s m = (
+    w,
+    Pi arrow_binder c d,
+    reading.Visits.here,
+    record {
+      domain = a;
+      body = b;
+      is = e;
+      c = c;
+      d = d;
+      reads_domain = r.0;
+      small_domain = r.2;
+      reads_body = s.0;
+      small_body = s.2;
+      passes = m.0;
+      core = refl;
+    },
+    m.1,
+    m.2,
+  )
   arrow_reads w a b c d (Err NotBuilt) e r s m = absurd m
   arrow_reads w a b c d (Err (Unknown p n)) e r s m = absurd m
   arrow_reads w a b c d (Err Memory) e r s m = tt
@@ -181,6 +200,6 @@ is_there (e ∷ es) zero l h = cc
 is_there (e ∷ es) (suc i) l h = is_there es i (omega arith) h
 
 -- a test of the bindings as they are written and as the grammar sees them
-pub built-map : (bs : List Binding) → list_all (λ b. is_simple_assumption b.says) (map bound_of bs) ≡ list_all (λ b. is_simple_assumption (says_of b.kind)) bs
+pub built-map : (bs : List Binding) → list_all (λ b. is_simple_assumption b.kind) (map written_binding bs) ≡ list_all (λ b. is_simple_assumption (written_kind b.kind)) bs
 built-map [] = refl
-built-map (b ∷ bs) = ap (λ x. is_simple_assumption (says_of b.kind) && x) (built-map bs)
+built-map (b ∷ bs) = ap (λ x. is_simple_assumption (written_kind b.kind) && x) (built-map bs)

@@ -11,18 +11,19 @@ use Rattle.lego_base.specs.Bytes.{AppendsFront}
 use Rattle.lego_base.specs.Place.{behind}
 use Rattle.lego_base.specs.declared.place.Place.{Place}
 use Rattle.lego_lexer.specs.Bytes.{Gap}
-use Rattle.lego_lexer.specs.Commands.{CommandText, Cuts, Ending, Whole}
+use Rattle.lego_lexer.specs.Commands.{CommandText, Begins, Cuts, Ending, Whole}
 use Rattle.lego_grammar.specs.Grammar.{Names}
-use Rattle.lego_kernel.specs.declared.entry.Entry.{Entry as Item}
-use Rattle.lego_session.specs.Commands.{Answers}
+use Rattle.lego_session.specs.Sessions.{Session, empty_session}
+use Rattle.lego_session.specs.Answers.{Answers}
+use Rattle.lego_session.specs.Texts.{first_place}
 use Rattle.lego_session.specs.Outcomes.{AnswersFront}
-use Rattle.lego_session.specs.Progress.{Reached, IsCommandAt, AreAnswered}
-use Rattle.lego_session.specs.Runs.{Runs, first_place, answers_text, some_refused}
-use Rattle.lego_session.specs.Steps.{Reply}
+use Rattle.lego_session.specs.private.Progress.{Reached, IsCommandAt, AreAnswered}
+use Rattle.lego_session.specs.Runs.{Runs, step_limit, answers_text, some_refused}
+use Rattle.lego_session.specs.Step.{Reply}
 
 -- a run of one command more
-pub runs-push : {held names last : Names} {old mid new : List Item} {cs : List CommandText} {answers : List Reply} (c : CommandText) (a : Reply)
-    → Runs held old cs answers names mid → Answers names mid c a last new → Runs held old (cs ++ c ∷ []) (answers ++ a ∷ []) last new
+pub runs-push : {held names last : Names} {old mid new : Session} {cs : List CommandText} {answers : List Reply} (c : CommandText) (a : Reply)
+    → Runs held old cs answers names mid → Answers step_limit names mid c a last new → Runs held old (cs ++ c ∷ []) (answers ++ a ∷ []) last new
 runs-push c a Runs.none h = Runs.more h Runs.none
 runs-push c a (Runs.more g r) h = Runs.more g (runs-push c a r h)
 
@@ -33,7 +34,7 @@ refused-push : (answers : List Reply) (a : Reply) → some_refused (answers ++ a
 refused-push answers a = list_any-append (λ (b : Reply). b.refused) answers (a ∷ []) ∙ ap (λ b. some_refused answers || b) (or-false a.refused)
 
 -- before the first command
-pub reached_first : (bytes : List ℕ) (t : Option (List ℕ)) → Reached bytes 0 first_place [] [] false t t
+pub reached_first : (bytes : List ℕ) (t : Option (List ℕ)) → Reached bytes 0 first_place [] empty_session false t t
 reached_first bytes t = record {
   came = [];
   commands = [];
@@ -45,7 +46,7 @@ reached_first bytes t = record {
   written = Appends-nil t;
 }
 
-module _ (bytes : List ℕ) (at : ℕ) (place : Place) (held : Names) (old : List Item) (flag : Bool) (t0 t1 : Option (List ℕ))
+module _ (bytes : List ℕ) (at : ℕ) (place : Place) (held : Names) (old : Session) (flag : Bool) (t0 t1 : Option (List ℕ))
     (r : Reached bytes at place held old flag t0 t1) where
   -- the answers so far were taken
   pub front_so_far : AnswersFront bytes t0 t1
@@ -56,7 +57,7 @@ module _ (bytes : List ℕ) (at : ℕ) (place : Place) (held : Names) (old : Lis
         came = r.came ++ [];
         more = drop at bytes;
         parts = r.parts ∙ ap (λ (xs : List ℕ). xs ++ drop at bytes) (sym (append-nil r.came));
-        run = record { commands = r.commands ++ []; ending = Whole; names = held; answers = r.answers; entries = old; cut = r.cuts [] [] Whole (Cuts.whole Gap.none); runs = subst (λ (cs : List CommandText). Runs [] [] cs r.answers held old) (sym (append-nil r.commands)) r.runs };
+        run = record { commands = r.commands ++ []; ending = Whole; names = held; answers = r.answers; session = old; cut = r.cuts [] [] Whole (Cuts.whole (Begins.blank Gap.none)); runs = subst (λ (cs : List CommandText). Runs [] empty_session cs r.answers held old) (sym (append-nil r.commands)) r.runs };
         written = (length (answers_text r.answers), omega arith, subst (Appends t0 t1) (all ∙ ap (take (length (answers_text r.answers))) whole) r.written);
       }
 
@@ -66,14 +67,14 @@ module _ (bytes : List ℕ) (at : ℕ) (place : Place) (held : Names) (old : Lis
     commands = r.commands ++ [];
     answers = r.answers;
     cut = subst (λ (xs : List ℕ). Cuts first_place xs (r.commands ++ []) ending) (sym r.parts) (r.cuts (drop at bytes) [] ending k);
-    runs = subst (λ (cs : List CommandText). Runs [] [] cs r.answers held old) (sym (append-nil r.commands)) r.runs;
+    runs = subst (λ (cs : List CommandText). Runs [] empty_session cs r.answers held old) (sym (append-nil r.commands)) r.runs;
     refusal = r.refusal;
     written = r.written;
   }
 
   -- one command more is answered
-  module _ (here : Place) (start end : ℕ) (there : IsCommandAt bytes at place here start end) (names : Names) (new : List Item) (a : Reply)
-      (step : Answers held old (record { place = here; bytes = slice_range bytes start end }) a names new) where
+  module _ (here : Place) (start end : ℕ) (there : IsCommandAt bytes at place here start end) (names : Names) (new : Session) (a : Reply)
+      (step : Answers step_limit held old (record { place = here; bytes = slice_range bytes start end }) a names new) where
     came : List ℕ
     came = r.came ++ slice_range bytes at end
 
@@ -118,9 +119,9 @@ module _ (bytes : List ℕ) (at : ℕ) (place : Place) (held : Names) (old : Lis
             ending = Whole;
             names = names;
             answers = r.answers ++ a ∷ [];
-            entries = new;
-            cut = cuts [] [] Whole (Cuts.whole Gap.none);
-            runs = subst (λ (cs : List CommandText). Runs [] [] cs (r.answers ++ a ∷ []) names new) (sym (append-nil (r.commands ++ record { place = here; bytes = slice_range bytes start end } ∷ []))) (runs-push _ a r.runs step);
+            session = new;
+            cut = cuts [] [] Whole (Cuts.whole (Begins.blank Gap.none));
+            runs = subst (λ (cs : List CommandText). Runs [] empty_session cs (r.answers ++ a ∷ []) names new) (sym (append-nil (r.commands ++ record { place = here; bytes = slice_range bytes start end } ∷ []))) (runs-push _ a r.runs step);
           };
           written = (length before + w.0, omega (arith, w.1, ap length all, length-append before a.text), subst (Appends t0 t2) (sym front) (Appends-trans t0 t1 t2 _ _ r.written w.2));
         }

@@ -5,7 +5,7 @@ use Rattle.std.proofs.lemmas.Option.{same_Some}
 use Rattle.std.specs.Cmp.Derive.{both_true}
 use Rattle.lego_base.specs.declared.place.Place.{Place}
 use Rattle.lego_lexer.specs.declared.token.Token.{Token}
-use Rattle.lego_session.specs.Unread.{FirstStandElsewhere}
+use Rattle.lego_session.specs.private.Unread.{FirstStandElsewhere}
 
 -- two places are the same by the test of their numbers
 abbrev pub are_same : Place → Place → Bool

@@ -6,28 +6,28 @@ use Rattle.lego_term.specs.declared.binder.Mark.TheVariants.{Plain}
 use Rattle.lego_lexer.specs.Commands.{CommandText, Cuts, Whole}
 use Rattle.lego_lexer.specs.Tokens.{Placed, Tokens}
 use Rattle.lego_grammar.specs.Grammar.{Names, Parses}
-use Rattle.lego_grammar.specs.Written.{Written, Assumed, Bound, Bindings, Explicit, Order}
+use Rattle.lego_grammar.specs.Written.{Written, Assumed, WrittenBinding, Bindings, Explicit, WrittenCommand}
 use Rattle.lego_kernel.specs.Entries.{assumption}
 use Rattle.lego_kernel.specs.declared.entry.Entry.{Entry as Item}
-use Rattle.lego_session.specs.Commands.{grammar_tokens}
+use Rattle.lego_session.specs.Answers.{grammar_tokens}
 use Rattle.lego_session.specs.Reading.{ReadsType}
 
 -- the bytes are read as the command, without limits
-pub record ReadsAs (names : Names) (c : CommandText) (o : Order) : Type 0 where
+pub record ReadsAs (names : Names) (c : CommandText) (o : WrittenCommand) : Type 0 where
   pub tokens : List Placed
   pub lexed : Tokens c.place c.bytes tokens
   pub parsed : Parses names (grammar_tokens tokens) o
 
 -- a command that assumes one name makes this entry, behind those before it
 pub record Declares (names : Names) (before : List Item) (c : CommandText) (e : Item) : Type 0 where
-  pub order : Order
+  pub order : WrittenCommand
   pub reads : ReadsAs names c order
-  pub binding : Bound
-  pub binds : order.deed ≡ Bindings (binding ∷ [])
+  pub binding : WrittenBinding
+  pub binds : order.act ≡ Bindings (binding ∷ [])
   pub name : ℕ
   pub names_it : binding.names ≡ name ∷ []
   pub written : Written
-  pub says : binding.says ≡ Assumed Plain written
+  pub says : binding.kind ≡ Assumed Plain written
   pub ty : Core
   pub type : ReadsType before written ty
   pub is : e ≡ assumption before name Plain ty
@@ -43,7 +43,7 @@ pub record Denotes (names : Names) (place : Place) (text : List ℕ) (es : List 
   pub first : CommandText
   pub commands : List CommandText
   pub cut : Cuts place text (first ∷ commands) Whole
-  pub order : Order
+  pub order : WrittenCommand
   pub explicit : ReadsAs names first order
-  pub is_explicit : order.deed ≡ Explicit
+  pub is_explicit : order.act ≡ Explicit
   pub declares : DeclareAll names [] commands es

@@ -7,8 +7,7 @@ use Rattle.lego_grammar.specs.Grammar.{Names}
 use Rattle.lego_kernel.specs.Entries.{laws_entries}
 use Rattle.lego_kernel.specs.declared.entry.Entry.{Entry as Item}
 use Rattle.lego_session.specs.Denotes.{Denotes}
-use Rattle.lego_session.specs.Runs.{first_place}
-use Rattle.lego_session.specs.Texts.{development_text}
+use Rattle.lego_session.specs.Texts.{first_place, development_text}
 
 -- The development's text reads as the entries, in which each assumption's type is a type by Luo's rules.
 pub record Headline (names : Names) (es : List Item) : Type 0 where

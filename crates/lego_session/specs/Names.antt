@@ -1,9 +1,11 @@
 -- Names by their numbers.
-use Rattle.std.specs.Prelude.{◌≡◌, ℕ, List, [], Some, slice_get, unwrap_or, All}
+use Rattle.std.specs.Prelude.{◌≡◌, ℕ, List, [], Option, Some, IfSome, slice_get, unwrap_or, All}
 use Rattle.std.specs.List.{AllByRecursion}
+use Rattle.lego_term.specs.Trees.{Core, Var, Const, Prop, Univ, Pi, Lam, App, Sigma, Pair, Fst, Snd, Let}
 use Rattle.lego_lexer.specs.Tokens.{Name, token_of}
 use Rattle.lego_grammar.specs.Grammar.{Names}
 use Rattle.lego_kernel.specs.declared.entry.Entry.{Entry as Item}
+use Rattle.lego_session.specs.Sessions.{Session, HoldsThroughout}
 
 -- the text of a number
 abbrev pub name_text : Names → ℕ → List ℕ
@@ -19,6 +21,33 @@ pub record IsHeldName (names : Names) (n : ℕ) : Type 0 where
 abbrev pub AreHeld : Names → List ℕ → Type 0
 AreHeld names ns = AllByRecursion (IsHeldName names) ns
 
--- each entry has a name, which is held
+-- the name of an entry or a binder is held, where it has one
+abbrev pub IsHeldWhere : Names → Option ℕ → Type 0
+IsHeldWhere names name = IfSome name (IsHeldName names)
+
+-- the names of the term's binders are held
+abbrev pub AreBindersHeld : Names → Core → Type 0
+AreBindersHeld names (Var i) = Unit {0}
+AreBindersHeld names (Const k) = Unit {0}
+AreBindersHeld names Prop = Unit {0}
+AreBindersHeld names (Univ l) = Unit {0}
+AreBindersHeld names (Pi x a b) = IsHeldWhere names x.name × AreBindersHeld names a × AreBindersHeld names b
+AreBindersHeld names (Lam x a m) = IsHeldWhere names x.name × AreBindersHeld names a × AreBindersHeld names m
+AreBindersHeld names (App mark m n) = AreBindersHeld names m × AreBindersHeld names n
+AreBindersHeld names (Sigma x a b) = IsHeldWhere names x.name × AreBindersHeld names a × AreBindersHeld names b
+AreBindersHeld names (Pair x a b m n) =
+    IsHeldWhere names x.name × AreBindersHeld names a × AreBindersHeld names b × AreBindersHeld names m × AreBindersHeld names n
+AreBindersHeld names (Fst m) = AreBindersHeld names m
+AreBindersHeld names (Snd m) = AreBindersHeld names m
+AreBindersHeld names (Let x m n) = IsHeldWhere names x.name × AreBindersHeld names m × AreBindersHeld names n
+
+-- each name that occurs in the entry, as its own or as a binder's, is held
+abbrev pub IsKnown : Names → Item → Type 0
+IsKnown names e = IsHeldWhere names e.name × AreBindersHeld names e.ty
+
 abbrev pub AreKnown : Names → List Item → Type 0
-AreKnown names es = All (λ e. (n : ℕ) × (e.name ≡ Some n) × IsHeldName names n) es
+AreKnown names es = All (IsKnown names) es
+
+-- so of the entries of the present state and of the history's states
+abbrev pub IsKnownSession : Names → Session → Type 0
+IsKnownSession names s = HoldsThroughout (AreKnown names) s

@@ -3,6 +3,7 @@ use Rattle.std.specs.Prelude.{◌≡◌, ℕ, ◌<◌, ◌≤◌, Bool, true, fa
 use Rattle.std.specs.Io.KnownBytes.{Appends, Consumes, IsAtEnd}
 use Rattle.lego_base.specs.Bytes.{AppendsFront}
 use Rattle.lego_session.specs.Headline.{Headline}
+use Rattle.lego_session.specs.Sessions.{entries_of}
 use Rattle.lego_session.specs.Runs.{Run, answers_text, output_of, refuses}
 use Rattle.lego_session.specs.declared.status.Status.{Status}
 use Rattle.lego_session.specs.declared.status.Status.TheVariants.{Accepted, Refused, Usage, ReadFault, WriteFault, Memory, OpenProof, TooLong}
@@ -16,7 +17,7 @@ pub record Ended (left left' taken taken' : Option (List ℕ)) (refused : Bool) 
   pub run : Run read
   pub refusal : refuses run ≡ refused
   pub written : Appends taken taken' (output_of run)
-  pub headline : Headline run.names run.entries
+  pub headline : Headline run.names (entries_of run.session)
 
 -- the commands that ended within the bytes are answered, and the answers were taken
 pub record AnswersAll (bytes : List ℕ) (taken taken' : Option (List ℕ)) : Type 0 where

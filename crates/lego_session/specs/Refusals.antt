@@ -1,5 +1,5 @@
 -- The text of a refusal.
-use Rattle.std.specs.Prelude.{◌≡◌, ◌⊎◌, ℕ, ◌+◌, ◌/◌, ◌%◌, nat_le, nat_lt, ◌&&◌, if◌then◌else◌, List, [], ◌∷◌, ◌++◌, codes, decimal}
+use Rattle.std.specs.Prelude.{ℕ, ◌+◌, ◌/◌, ◌%◌, nat_le, nat_lt, ◌&&◌, if◌then◌else◌, List, [], ◌∷◌, ◌++◌, codes, decimal}
 use Rattle.lego_base.specs.declared.place.Place.{Place}
 use Rattle.lego_term.specs.declared.seen.Seen.{Seen}
 use Rattle.lego_grammar.specs.Grammar.{Names}
@@ -9,7 +9,7 @@ use Rattle.lego_kernel.specs.declared.fault.Counted.TheVariants.{Entries, Levels
 use Rattle.lego_session.specs.Names.{name_text}
 use Rattle.lego_session.specs.Texts.{type_text}
 use Rattle.lego_session.specs.declared.refusal.Cause.{Cause}
-use Rattle.lego_session.specs.declared.refusal.Cause.TheVariants.{BadByte, OpenComment, LongName, BigLevel, Unexpected, TooDeep, Unended, LongCommand, NamesFull, UnknownName, NameInUse, NotAType, TooLarge, Full, Memory}
+use Rattle.lego_session.specs.declared.refusal.Cause.TheVariants.{BadByte, OpenComment, LongName, BigLevel, Unexpected, TooDeep, Unended, LongCommand, NamesFull, UnknownName, NameInUse, NotAType, TooLarge, Full, TooFar, Memory}
 
 -- a place: its line, a colon, its column
 abbrev pub place_text : Place → List ℕ
@@ -23,37 +23,59 @@ hex_digit n = if nat_lt n 10 then 48 + n else 55 + n
 abbrev pub byte_text : ℕ → List ℕ
 byte_text b = if nat_le 0x21 b && nat_le b 0x7E then b ∷ [] else codes "\\x" ++ hex_digit (b / 16) ∷ hex_digit (b % 16) ∷ []
 
+-- what is in scope where a command is refused: the entries, those of earlier bindings of the command among them
+pub record Scope : Type 0 where
+  pub entries : List Item
+
 -- a term of a refusal; so far it is a type
-abbrev pub seen_text : Names → List Item → Seen → List ℕ
-seen_text names es s = type_text names es 0 s.term
+abbrev pub seen_text : Names → Scope → Seen → List ℕ
+seen_text names scope s = type_text names scope.entries 0 s.term
 
 abbrev pub counted_text : Counted → List ℕ
 counted_text Entries = codes "entries "
 counted_text Levels = codes "levels "
 
--- the number and the name of a cause, and its details behind a blank
-abbrev pub cause_text : Names → List Item → Cause → List ℕ
-cause_text names es (BadByte byte) = codes "1 BadByte " ++ byte_text byte
-cause_text names es OpenComment = codes "2 OpenComment"
-cause_text names es LongName = codes "3 LongName"
-cause_text names es BigLevel = codes "4 BigLevel"
-cause_text names es (Unexpected token) = codes "5 Unexpected " ++ token
-cause_text names es TooDeep = codes "6 TooDeep"
-cause_text names es Unended = codes "7 Unended"
-cause_text names es (LongCommand bytes) = codes "8 LongCommand " ++ decimal bytes
-cause_text names es NamesFull = codes "9 NamesFull"
-cause_text names es (UnknownName name) = codes "10 UnknownName " ++ name_text names name
-cause_text names es (NameInUse name) = codes "12 NameInUse " ++ name_text names name
-cause_text names es (NotAType term got) = codes "13 NotAType " ++ seen_text names es term ++ codes " : " ++ seen_text names es got
-cause_text names es (TooLarge nodes levels) = codes "19 TooLarge " ++ decimal nodes ++ codes ", " ++ decimal levels
-cause_text names es (Full of held) = codes "21 Full " ++ counted_text of ++ decimal held
-cause_text names es Memory = []
+-- the number and the name of a cause; want of memory is answered with no text
+pub record Heading : Type 0 where
+  pub number : ℕ
+  pub name : List ℕ
 
--- a refusal's line, with the names of these entries
-abbrev pub refusal_text : Names → List Item → Place → Cause → List ℕ
-refusal_text names es place cause = codes "refused " ++ place_text place ++ codes " " ++ cause_text names es cause ++ codes "\n"
+abbrev pub heading : Cause → Heading
+heading (BadByte byte) = record { number = 1; name = codes "BadByte" }
+heading OpenComment = record { number = 2; name = codes "OpenComment" }
+heading LongName = record { number = 3; name = codes "LongName" }
+heading BigLevel = record { number = 4; name = codes "BigLevel" }
+heading (Unexpected token) = record { number = 5; name = codes "Unexpected" }
+heading TooDeep = record { number = 6; name = codes "TooDeep" }
+heading Unended = record { number = 7; name = codes "Unended" }
+heading (LongCommand bytes) = record { number = 8; name = codes "LongCommand" }
+heading NamesFull = record { number = 9; name = codes "NamesFull" }
+heading (UnknownName name) = record { number = 10; name = codes "UnknownName" }
+heading (NameInUse name) = record { number = 12; name = codes "NameInUse" }
+heading (NotAType term got) = record { number = 13; name = codes "NotAType" }
+heading (TooLarge nodes levels) = record { number = 19; name = codes "TooLarge" }
+heading (Full of held) = record { number = 21; name = codes "Full" }
+heading (TooFar asked held) = record { number = 38; name = codes "TooFar" }
+heading Memory = record { number = 0; name = [] }
 
--- the refusal has the place, the cause and their text; without memory it says so, and has no text
-abbrev pub IsRefusalOf : Names → List Item → Place → Cause → Place → Cause → List ℕ → Type 0
-IsRefusalOf names es place cause p c text =
-    ((c ≡ Memory) × (text ≡ [])) ⊎ ((cause ≡ Memory → ⊥) × (p ≡ place) × (c ≡ cause) × (text ≡ refusal_text names es place cause))
+-- the details of a cause, each behind a blank; nothing where there are none
+abbrev pub details_text : Names → Scope → Cause → List ℕ
+details_text names scope (BadByte byte) = codes " " ++ byte_text byte
+details_text names scope (Unexpected token) = codes " " ++ token
+details_text names scope (LongCommand bytes) = codes " " ++ decimal bytes
+details_text names scope (UnknownName name) = codes " " ++ name_text names name
+details_text names scope (NameInUse name) = codes " " ++ name_text names name
+details_text names scope (NotAType term got) = codes " " ++ seen_text names scope term ++ codes " : " ++ seen_text names scope got
+details_text names scope (TooLarge nodes levels) = codes " " ++ decimal nodes ++ codes ", " ++ decimal levels
+details_text names scope (Full of held) = codes " " ++ counted_text of ++ decimal held
+details_text names scope (TooFar asked held) = codes " " ++ decimal asked ++ codes ", " ++ decimal held
+details_text names scope _ = []
+
+-- the name of a cause and its details
+abbrev pub cause_text : Names → Scope → Cause → List ℕ
+cause_text names scope cause = (heading cause).name ++ details_text names scope cause
+
+-- a refusal's line, with the names in scope
+abbrev pub refusal_text : Names → Scope → Place → Cause → List ℕ
+refusal_text names scope place cause =
+    codes "refused " ++ place_text place ++ codes " " ++ decimal (heading cause).number ++ codes " " ++ cause_text names scope cause ++ codes "\n"

@@ -1,10 +1,15 @@
 -- The texts of types, entries and the development.
 use Rattle.std.specs.Prelude.{ℕ, nat_lt, nat_eq, if◌then◌else◌, List, [], ◌++◌, codes, find, option_map, unwrap_or}
 use Rattle.std.specs.List.{flat_map}
+use Rattle.lego_base.specs.declared.place.Place.{Place}
 use Rattle.lego_term.specs.Trees.{Core, Const, Prop, Pi}
 use Rattle.lego_grammar.specs.Grammar.{Names}
 use Rattle.lego_kernel.specs.declared.entry.Entry.{Entry as Item}
 use Rattle.lego_session.specs.Names.{name_text}
+
+-- where a script begins
+abbrev pub first_place : Place
+first_place = record { line = 1; column = 1 }
 
 -- the name of an entry
 abbrev pub entry_name : Names → Item → List ℕ

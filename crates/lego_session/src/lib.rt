@@ -1,8 +1,10 @@
 //! A session of commands, and the run of a script.
 #![tactic(auto)]
 
-mod answer;
-mod binding;
+mod answers;
+mod command_text;
+mod commands;
+mod parts;
 mod reading;
 mod refusal;
 mod refusal_text;
@@ -10,10 +12,7 @@ mod running;
 mod script;
 mod session;
 mod status;
-#[cfg(test)]
-mod tests;
 mod text;
-mod unread;
 
 pub use reading::is_built;
 pub use refusal::{Cause, Refusal};

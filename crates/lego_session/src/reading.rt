@@ -2,9 +2,10 @@
 ghost use Rattle.std.specs.Prelude.{◌≡◌};
 ghost use Rattle.std.specs.List.{list_all};
 ghost use Rattle.lego_term.specs.Trees.{Const, Prop, Pi};
-ghost use Rattle.lego_grammar.specs.Surface.{written, deed_of_act, says_of};
+ghost use Rattle.lego_grammar.specs.Surface.{written, written_act, written_kind};
 ghost use Rattle.lego_grammar.specs.Written.{Named};
-ghost use Rattle.lego_session.specs.Reading.{is_arrow, is_simple, is_simple_assumption, is_built, arrow_binder, read_fault, IsReading, IsMade};
+ghost use Rattle.lego_session.specs.Reading.{is_arrow, is_simple, is_simple_assumption, is_built, arrow_binder};
+ghost use Rattle.lego_session.specs.private.Reading.{read_fault, IsReading, IsMade};
 
 use lego_base::Place;
 use lego_grammar::{Act, Binding, BindingKind, Kind, Surface};
@@ -38,16 +39,19 @@ impl From<TermFault> for ReadFault {
 
 /// Whether the form of a command is built.
 pub fn is_built(act: &Act) -> bool
-    ensures { result ≡ is_built (deed_of_act act.now) }
+    ensures { result ≡ is_built (written_act act.now) }
 {
     match act {
         Act::Bind { bindings } => are_built(bindings.items()),
+        Act::Undo { .. } => true,
+        Act::Forget { .. } => true,
+        Act::Ctxt => true,
         _ => false,
     }
 }
 
 fn are_built(bindings: &[Binding]) -> bool
-    ensures { result ≡ list_all (λ b. is_simple_assumption (says_of b.kind)) bindings.now }
+    ensures { result ≡ list_all (λ b. is_simple_assumption (written_kind b.kind)) bindings.now }
 {
     bindings
         .iter()
@@ -56,7 +60,7 @@ fn are_built(bindings: &[Binding]) -> bool
 
 /// Whether a binding is a plain assumption of a simple type.
 fn is_simple_assumption(kind: &BindingKind) -> bool
-    ensures { result ≡ is_simple_assumption (says_of kind.now) }
+    ensures { result ≡ is_simple_assumption (written_kind kind.now) }
 {
     match kind {
         BindingKind::Assume { mark, ty } => *mark == Mark::Plain && is_simple(ty),

@@ -1,7 +1,8 @@
 //! Refusals of commands.
 
 ghost use Rattle.std.specs.Prelude.{◌≡◌, []};
-ghost use Rattle.lego_session.specs.Refusals.{IsRefusalOf};
+ghost use Rattle.lego_session.specs.Refusals.{Heading, heading};
+ghost use Rattle.lego_session.specs.private.Refusals.{IsRefusalOf};
 
 use crate::refusal_text::refusal_text;
 use lego_base::{Names, Place};
@@ -41,8 +42,45 @@ pub enum Cause {
     TooLarge { size: u64, depth: u32 },
     /// `held` are held, which is the limit.
     Full { of: Counted, held: u32 },
+    /// More steps are to be undone than are held.
+    TooFar { asked: u64, held: u64 },
     /// Memory ran out.
     Memory,
+}
+
+/// The number and the name of a cause.
+#[derive(Clone, Copy)]
+pub(crate) struct Heading {
+    pub number: u8,
+    pub name: &'static [u8],
+}
+
+impl Cause {
+    /// The number and the name; want of memory has none.
+    pub(crate) fn heading(&self) -> Heading
+        ensures number { result.number ≡ (heading self.now).number }
+        ensures name { result.name.now ≡ (heading self.now).name }
+    {
+        let (number, name): (u8, &'static [u8]) = match self {
+            Cause::BadByte { .. } => (1, b"BadByte"),
+            Cause::OpenComment => (2, b"OpenComment"),
+            Cause::LongName => (3, b"LongName"),
+            Cause::BigLevel => (4, b"BigLevel"),
+            Cause::Unexpected { .. } => (5, b"Unexpected"),
+            Cause::TooDeep => (6, b"TooDeep"),
+            Cause::Unended => (7, b"Unended"),
+            Cause::LongCommand { .. } => (8, b"LongCommand"),
+            Cause::NamesFull => (9, b"NamesFull"),
+            Cause::UnknownName { .. } => (10, b"UnknownName"),
+            Cause::NameInUse { .. } => (12, b"NameInUse"),
+            Cause::NotAType { .. } => (13, b"NotAType"),
+            Cause::TooLarge { .. } => (19, b"TooLarge"),
+            Cause::Full { .. } => (21, b"Full"),
+            Cause::TooFar { .. } => (38, b"TooFar"),
+            Cause::Memory => (0, b""),
+        };
+        Heading { number, name }
+    }
 }
 
 /// Why a command is refused, and where.
@@ -82,7 +120,7 @@ impl Refusal {
         place: Place,
         cause: Cause,
     ) -> Refusal
-        ensures { IsRefusalOf names.now context.now place cause result.place result.cause result.text }
+        ensures { IsRefusalOf names.now (record { entries = context.now }) place cause result.place result.cause result.text }
     {
         if let Cause::Memory = cause {
             return Refusal::memory(alloc, place);

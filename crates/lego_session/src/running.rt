@@ -1,14 +1,14 @@
 //! The run of a script: its commands are answered one after the other, and the development follows.
 ghost use Rattle.std.specs.Prelude.{◌≡◌, ◌≢◌, ◌≤◌, [], List, length, IfOk, IfErr, ◌⊎◌};
 ghost use Rattle.lego_base.specs.Causes.{Rose};
-ghost use Rattle.lego_session.specs.Names.{AreKnown};
+ghost use Rattle.lego_session.specs.Names.{IsKnownSession};
 ghost use Rattle.lego_session.specs.Outcomes.{Outcome, UsageOutcome, IsAcceptable};
-ghost use Rattle.lego_session.specs.Progress.{IsNear, IsNext, AreAnswered, Halted, Finished, ending_of};
+ghost use Rattle.lego_session.specs.private.Progress.{IsNear, IsNext, AreAnswered, Halted, Finished, ending_of};
 ghost use Rattle.lego_session.specs.Runs.{ending_text, closing_text};
-ghost use Rattle.lego_kernel.specs.Contexts.{IsContext};
-ghost use Rattle.lego_kernel.specs.declared.entry.Entry.{Entry as Item};
+ghost use Rattle.lego_session.specs.Headline.{Headline};
+ghost use Rattle.lego_session.specs.Sessions.{Session as TheSession, entries_of};
 
-use crate::answer::answer;
+use crate::answers::answer;
 use crate::refusal::Cause;
 use crate::refusal_text::refusal_text;
 use crate::script::{End, MAX_SCRIPT, read_all};
@@ -18,6 +18,9 @@ use lego_base::{Failed, Names, Place, Sink, Source, after, send};
 use lego_kernel::Context;
 use lego_lexer::{Cut, cut};
 use std::alloc::{AllocError, Global};
+
+/// The most steps of one comparison or reduction.
+const STEP_LIMIT: u64 = 100_000;
 
 /// What stands behind the last command.
 #[derive(Clone, Copy)]
@@ -80,7 +83,7 @@ fn answer_all<K: Sink>(alloc: Global, text: &[u8], out: &mut K) -> Result<AllAns
     requires { length text.now ≤ 16777216 }
     ensures ok { IfOk result (λ a. AreAnswered text.now a.names a.session a.refused
         (ending_of a.rest) (K.taken out.old) (K.taken out.new)) }
-    ensures known { IfOk result (λ a. AreKnown a.names a.session) }
+    ensures known { IfOk result (λ a. IsKnownSession a.names a.session) }
     ensures err { IfErr result (λ status. Halted text.now (K.taken out.old) (K.taken out.new)
         (K.faults out.old) (K.faults out.new) status) }
     ensures later { K.faults out.old ≤ K.faults out.new }
@@ -103,7 +106,8 @@ fn answer_all<K: Sink>(alloc: Global, text: &[u8], out: &mut K) -> Result<AllAns
             }
         };
         let command = &text[start..end];
-        let Some(answered) = answer(alloc, &mut names, &mut session, here, command) else {
+        let Some(answered) = answer(alloc, &mut names, &mut session, STEP_LIMIT, here, command)
+        else {
             return Err(Status::Memory);
         };
         refused |= answered.refused;
@@ -117,8 +121,8 @@ fn answer_all<K: Sink>(alloc: Global, text: &[u8], out: &mut K) -> Result<AllAns
 
 /// The refusal of what stands behind the last command, if it is refused.
 fn refusal_of_rest(alloc: Global, names: &Names, rest: Rest) -> Result<Vec<u8>, AllocError>
-    ensures { IfOk result (λ text. (es : List Item)
-        → text.items ≡ ending_text names.now es (ending_of rest)) }
+    ensures { IfOk result (λ text. (s : TheSession)
+        → text.items ≡ ending_text names.now s (ending_of rest)) }
 {
     let (place, cause) = match rest {
         Rest::Blank => return Ok(Vec::new(alloc)),
@@ -136,10 +140,10 @@ fn closing(
     session: &Session,
     rest: Rest,
 ) -> Result<Vec<u8>, AllocError>
-    requires { AreKnown names.now session.now }
+    requires { IsKnownSession names.now session.now }
     ensures text { IfOk result (λ text.
         text.items ≡ closing_text names.now session.now (ending_of rest)) }
-    ensures valid { IfOk result (λ text. IsContext session.now) }
+    ensures headline { IfOk result (λ text. Headline names.now (entries_of session.now)) }
 {
     let mut text = refusal_of_rest(alloc, names, rest)?;
     let development = session.development(names)?;
@@ -149,7 +153,7 @@ fn closing(
 
 /// Writes what follows the answers, and says how the run ended.
 fn finish<K: Sink>(alloc: Global, answered: &AllAnswered, out: &mut K) -> Status
-    requires { AreKnown answered.now.names answered.now.session }
+    requires { IsKnownSession answered.now.names answered.now.session }
     ensures { Finished answered.now.names answered.now.session answered.now.refused
         (ending_of answered.now.rest) (K.taken out.old) (K.taken out.new)
         (K.faults out.old) (K.faults out.new) result }

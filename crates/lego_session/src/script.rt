@@ -1,7 +1,7 @@
 //! The bytes of a script, read whole.
 ghost use Rattle.std.specs.Prelude.{◌≡◌, ◌≤◌, [], length};
 ghost use Rattle.std.specs.Io.KnownBytes.{Consumes};
-ghost use Rattle.lego_session.specs.Progress.{IsRead};
+ghost use Rattle.lego_session.specs.private.Progress.{IsRead};
 
 use lego_base::Source;
 

@@ -1,21 +1,26 @@
-//! A session: its entries, and the commands that change them.
-ghost use Rattle.std.specs.Prelude.{◌≡◌, ◌≤◌, [], true, false, take, drop, length, OnOk, OnErr, IfOk, IfErr};
-ghost use Rattle.lego_grammar.specs.Surface.{order_of};
-ghost use Rattle.lego_kernel.specs.Contexts.{IsContext};
-ghost use Rattle.lego_session.specs.Names.{AreKnown};
+//! A session: its state and its history, and the commands that change them.
+ghost use Rattle.std.specs.Prelude.{◌≡◌, true, false, OnErr, IfOk, IfErr};
+ghost use Rattle.lego_grammar.specs.Grammar.{Names as Numbering};
+ghost use Rattle.lego_grammar.specs.Surface.{written_command};
+ghost use Rattle.lego_undo.specs.Histories.{old_states, GoesWith};
+ghost use Rattle.lego_session.specs.Headline.{Headline};
+ghost use Rattle.lego_session.specs.Names.{IsKnownSession};
 ghost use Rattle.lego_session.specs.Reading.{is_built};
-ghost use Rattle.lego_session.specs.Refusals.{IsRefusalOf};
-ghost use Rattle.lego_session.specs.Steps.{HasPlaces, AreBoundHeld, bounds_of, Step, IsRefusal};
-ghost use Rattle.lego_session.specs.Texts.{entry_lines, development_text};
+ghost use Rattle.lego_session.specs.Sessions.{empty_session, entries_of};
+ghost use Rattle.lego_session.specs.Step.{Step, IsRefusal, IsFeasible, counts, bounds_of};
+ghost use Rattle.lego_session.specs.Texts.{development_text};
+ghost use Rattle.lego_session.specs.commands.Bindings.{HasPlaces, AreBoundHeld};
+ghost use Rattle.lego_session.specs.private.Refusals.{IsRefusalOf};
 ghost use Rattle.lego_session.specs.declared.refusal.Cause.TheVariants.{Memory};
 
-use crate::binding::bind_all;
-use crate::refusal::{Cause, Reason, Refusal};
-use crate::text::{development, entry_lines};
+use crate::parts::Parts;
+use crate::refusal::{Cause, Refusal};
+use crate::text::development;
 use lego_base::{Names, Place};
 use lego_grammar::{Act, Command};
 use lego_kernel::Context;
 use lego_term::List;
+use lego_undo::{History, State};
 use std::alloc::{AllocError, Global};
 use std::marker::Model;
 
@@ -26,108 +31,110 @@ pub struct Answer {
     pub text: List<u8>,
 }
 
-/// The state that commands change, which contracts see as the list of its entries.
+/// A session, which contracts see as its present state and the list of the old ones.
 #[derive(Drop)]
 pub struct Session {
-    alloc: Global,
-    context: Context,
+    parts: Parts,
 }
 
 impl Model for Session {
-    ghost use Rattle.std.specs.Prelude.{List};
-    ghost use Rattle.lego_kernel.specs.declared.entry.Entry.{Entry as Item};
-    ghost use Rattle.std.specs.Coded.{coded_list};
-    ghost use Rattle.lego_kernel.specs.EntryCode.{entry_code};
+    ghost use Rattle.lego_session.specs.Sessions.{Session as TheSession};
+    ghost use Rattle.lego_session.specs.private.Parts.{session_of};
+    ghost use Rattle.lego_session.specs.private.Printable.{IsPrintableSession};
+    ghost use Rattle.lego_session.specs.private.SessionCode.{session_code};
+    ghost use Rattle.lego_undo.specs.Histories.{GoesWith};
 
-    ghost Value = { List Item };
+    ghost Value = { TheSession };
 
-    ghost coded = { coded_list entry_code };
+    ghost coded = { session_code };
 
-    ghost view = { λ s. s.context };
+    ghost view = { λ s. session_of s.parts };
+
+    ghost invariant = { λ s. GoesWith s.parts.history s.parts.state × IsPrintableSession (session_of s.parts) };
 }
 
 impl Session {
-    /// A session with no entry.
+    /// A session with no entry and no step.
     pub fn new(alloc: Global) -> Session
-        ensures { result ≡ [] }
+        ensures { result ≡ empty_session }
     {
         Session {
-            alloc,
-            context: Context::new(alloc),
+            parts: Parts {
+                alloc,
+                state: State {
+                    context: Context::new(alloc),
+                },
+                history: History::new(alloc),
+            },
         }
     }
 
-    /// Runs one command of a form that is built. An accepted one counts as a step for Undo,
-    /// and answers a line for each new entry.
+    /// The present state.
+    pub fn state(&self) -> &State
+        ensures { result.now ≡ self.now.now.state }
+    {
+        &self.parts.state
+    }
+
+    /// What undoes the steps so far.
+    pub fn history(&self) -> &History
+        ensures states { old_states result.now self.now.now.state ≡ self.now.history }
+        ensures goes { GoesWith result.now self.now.now.state }
+    {
+        &self.parts.history
+    }
+
+    /// Runs one command of a form that is built: assumptions, `Undo`, `Forget` or `Ctxt`.
     ///
     /// # Errors
     ///
-    /// A refusal, with its place, cause and text; the entries are then as before. `limit` is
+    /// A refusal, with its place, cause and text; the session is then as before. `limit` is
     /// the most steps of one comparison or reduction; no command so far makes any.
     pub fn step(&mut self, names: &Names, command: &Command, limit: u64) -> Result<Answer, Refusal>
-        requires built { is_built (order_of command.now).deed ≡ true }
-        requires places { HasPlaces (bounds_of (order_of command.now).deed) }
-        ensures ok { IfOk result (λ answer. Step names.now self.old (order_of command.now) (record { refused = false; text = answer.text }) self.new) }
-        ensures counts { IfOk result (λ answer. answer.step ≡ true) }
-        ensures cause { IfErr result (λ refusal. IsRefusal names.now self.old (order_of command.now) refusal.place refusal.cause refusal.text) }
+        requires built { is_built (written_command command.now).act ≡ true }
+        requires places { HasPlaces (bounds_of (written_command command.now).act) }
+        ensures ok { IfOk result (λ answer. Step names.now limit self.old (written_command command.now) (record { refused = false; text = answer.text }) self.new) }
+        ensures counts { IfOk result (λ answer. answer.step ≡ counts (written_command command.now).act) }
+        ensures cause { IfErr result (λ refusal. IsRefusal names.now limit self.old (written_command command.now) refusal.place refusal.cause refusal.text) }
         ensures err { OnErr result (self.new ≡ self.old) }
-        ensures known { AreKnown names.now self.old → AreBoundHeld names.now (bounds_of (order_of command.now).deed) → AreKnown names.now self.new }
+        ensures complete { IfErr result (λ refusal. IsFeasible self.old (written_command command.now).act → refusal.cause ≡ Memory) }
+        ensures known { IsKnownSession names.now self.old → AreBoundHeld names.now (bounds_of (written_command command.now).act) → IsKnownSession names.now self.new }
     {
-        let Act::Bind { bindings } = &command.act else {
-            unreachable!()
-        };
-        let before = self.context.len();
-        match bind_all(self.alloc, &mut self.context, bindings.items(), limit) {
-            Ok(()) => self.accepted(names, before, command.place),
-            Err(fault) => Err(self.refused(names, before, fault)),
+        match &command.act {
+            Act::Bind { bindings } => {
+                self.parts
+                    .bind(names, command.place, bindings.items(), limit)
+            }
+            Act::Undo { count } => self.parts.undo(names, command.place, u64::from(*count)),
+            Act::Forget { place, name } => self.parts.forget(names, *place, *name),
+            Act::Ctxt => self.parts.show_context(names, command.place),
+            _ => unreachable!(),
         }
     }
 
     /// The refusal for a cause, over the entries as they are.
     pub(crate) fn refusal(&self, names: &Names, place: Place, cause: Cause) -> Refusal
-        ensures { IsRefusalOf names.now self.now place cause result.place result.cause result.text }
+        ensures { IsRefusalOf names.now (record { entries = entries_of self.now }) place cause result.place result.cause result.text }
     {
-        Refusal::of(self.alloc, names, &self.context, place, cause)
+        self.parts.refusal(names, place, cause)
     }
 
-    /// The answer with a line for each entry from a place on; without memory they go again.
-    fn accepted(&mut self, names: &Names, before: usize, place: Place) -> Result<Answer, Refusal>
-        requires { before ≤ length self.old }
-        ensures ok { IfOk result (λ answer. (answer.step ≡ true) × (answer.text ≡ entry_lines names.now self.old (drop before self.old))) }
-        ensures kept { OnOk result (self.new ≡ self.old) }
-        ensures cause { IfErr result (λ refusal. (refusal.cause ≡ Memory) × (refusal.text ≡ [])) }
-        ensures dropped { OnErr result (self.new ≡ take before self.old) }
+    /// The entries, whose development reads back as them where their names are held.
+    pub(crate) fn context(&self) -> &Context
+        ensures entries { result.now ≡ entries_of self.now }
+        ensures headline { (names : Numbering) → IsKnownSession names self.now → Headline names (entries_of self.now) }
     {
-        match entry_lines(self.alloc, names, &self.context, before) {
-            Ok(text) => Ok(Answer {
-                step: true,
-                text: List::of(text),
-            }),
-            Err(_) => {
-                self.context.forget(before);
-                Err(Refusal::memory(self.alloc, place))
-            }
-        }
+        let _entries = self.parts.state.context.len();
+        &self.parts.state.context
     }
 
-    /// The refusal for a fault; the entries from a place on go again.
-    fn refused(&mut self, names: &Names, before: usize, fault: Reason) -> Refusal
-        requires { before ≤ length self.old }
-        ensures text { IsRefusalOf names.now self.old fault.place fault.cause result.place result.cause result.text }
-        ensures dropped { self.new ≡ take before self.old }
-    {
-        let refusal = Refusal::of(self.alloc, names, &self.context, fault.place, fault.cause);
-        self.context.forget(before);
-        refusal
-    }
-
-    /// The text of the development: `Explicit;` and a command for each entry.
+    /// The text of the development: `Explicit;` and a command for each entry. It reads back as
+    /// the entries, in which each assumption's type is a type by Luo's rules.
     pub fn development(&self, names: &Names) -> Result<Vec<u8>, AllocError>
-        requires { AreKnown names.now self.now }
-        ensures text { IfOk result (λ text. text.items ≡ development_text names.now self.now) }
-        ensures valid { IsContext self.now }
+        requires { IsKnownSession names.now self.now }
+        ensures text { IfOk result (λ text. text.items ≡ development_text names.now (entries_of self.now)) }
+        ensures headline { Headline names.now (entries_of self.now) }
     {
-        let _entries = self.context.len();
-        development(self.alloc, names, &self.context)
+        development(self.parts.alloc, names, self.context())
     }
 }

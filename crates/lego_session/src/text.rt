@@ -1,9 +1,10 @@
 //! The texts of types, entries and the development. Each call adds to a text.
-ghost use Rattle.std.specs.Prelude.{◌≡◌, ◌++◌, if◌then◌else◌, codes, [], take, drop, OnOk, IfOk};
+ghost use Rattle.std.specs.Prelude.{◌≡◌, ◌++◌, if◌then◌else◌, codes, decimal, [], take, drop, OnOk, IfOk};
 ghost use Rattle.std.specs.List.{flat_map};
 ghost use Rattle.lego_session.specs.Names.{name_text};
 ghost use Rattle.lego_session.specs.Texts.{entry_name, constant_text, type_text, entry_text, entry_lines, entry_command, development_text};
 
+use itoa::Buffer;
 use lego_base::Names;
 use lego_kernel::{Context, Entry};
 use lego_term::{Node, Term};
@@ -28,6 +29,14 @@ fn entry_name<'a>(names: &'a Names, entry: &Entry) -> &'a [u8]
         Some(name) => name_text(names, name),
         None => b"",
     }
+}
+
+/// Adds the decimal digits of a number.
+pub(crate) fn push_number(text: &mut Vec<u8>, number: u64) -> Result<(), AllocError>
+    ensures { OnOk result (text.new.items ≡ text.old.items ++ decimal number) }
+{
+    let mut digits = Buffer::new();
+    text.extend_from_slice(digits.format(number).as_bytes())
 }
 
 /// Adds the bytes where the condition holds.
@@ -85,6 +94,7 @@ pub(crate) fn push_type(
         Node::Pair(..) => Ok(()),
         Node::Fst(_) => Ok(()),
         Node::Snd(_) => Ok(()),
+        Node::Local(..) => Ok(()),
     }
 }
 
@@ -123,7 +133,7 @@ pub(crate) fn entry_lines(
 }
 
 /// Adds `[x:T];` and a line end.
-fn push_command(
+pub(crate) fn push_command(
     text: &mut Vec<u8>,
     names: &Names,
     context: &Context,

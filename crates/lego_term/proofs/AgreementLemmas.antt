@@ -3,7 +3,7 @@ use Rattle.std.proofs.Common.{◌≡◌, ℕ, Bool, true, false, ◌&&◌, ◌||
 use Rattle.std.specs.Cmp.Derive.{both_true}
 use Rattle.std.proofs.lemmas.Bool.{false≢true}
 use Rattle.std.proofs.lemmas.Bool.Decides.{nat_tests}
-use Rattle.lego_term.specs.Trees.{Core, Var, Const, Prop, Univ, Pi, Lam, App, Sigma, Pair, Fst, Snd, size, map_tree, Equal, EqualButLevels}
+use Rattle.lego_term.specs.Trees.{Core, Var, Const, Prop, Univ, Pi, Lam, App, Sigma, Pair, Fst, Snd, Let, map_tree, Equal, EqualButLevels}
 use Rattle.lego_term.specs.Agreement.{agrees, same_option, same_mark, same_binder, same_level}
 use Rattle.lego_term.specs.declared.binder.Binder.{Binder}
 use Rattle.lego_term.specs.declared.binder.Mark.{Mark}
@@ -90,6 +90,8 @@ module _ (names levels : Bool) {B M L : Type 0} (f : Binder → B) (g : Mark →
       Pair (keeps.binder x y (left _ _ e2) i) (agrees-same a c (right _ _ e2) i) (agrees-same b d (right _ _ e3) i) (agrees-same m p (right _ _ e4) i) (agrees-same n q (right _ _ e) i)
   agrees-same (Fst a) (Fst c) e = ap Fst (agrees-same a c e)
   agrees-same (Snd a) (Snd c) e = ap Snd (agrees-same a c e)
+  agrees-same (Let x a b) (Let y c d) e = λ i.
+      Let (keeps.binder x y (left _ _ (left _ _ e)) i) (agrees-same a c (right _ _ (left _ _ e)) i) (agrees-same b d (right _ _ e) i)
   agrees-same _ _ e = absurd (false≢true e)
 
   same-agrees : (a b : Core) → map_tree f g h a ≡ map_tree f g h b → agrees names levels a b ≡ true
@@ -109,23 +111,9 @@ module _ (names levels : Bool) {B M L : Type 0} (f : Binder → B) (g : Mark →
       both_true (both_true (both_true (both_true (keeps.binder_back x y (cc)) (same-agrees a c (cc))) (same-agrees b d (cc))) (same-agrees m p (cc))) (same-agrees n q (cc))
   same-agrees (Fst a) (Fst c) e = same-agrees a c (cc)
   same-agrees (Snd a) (Snd c) e = same-agrees a c (cc)
+  same-agrees (Let x a b) (Let y c d) e =
+      both_true (both_true (keeps.binder_back x y (cc)) (same-agrees a c (cc))) (same-agrees b d (cc))
   same-agrees _ _ e = cc
-
-  size-map : (t : Core) → size (map_tree f g h t) ≡ size t
-  size-map (Var i) = refl
-  size-map (Const k) = refl
-  size-map Prop = refl
-  size-map (Univ l) = refl
-  size-map (Pi x a b) = omega (arith, size-map a, size-map b)
-  size-map (Lam x a m) = omega (arith, size-map a, size-map m)
-  size-map (App k m n) = omega (arith, size-map m, size-map n)
-  size-map (Sigma x a b) = omega (arith, size-map a, size-map b)
-  size-map (Pair x a b m n) = omega (arith, size-map a, size-map b, size-map m, size-map n)
-  size-map (Fst m) = omega (arith, size-map m)
-  size-map (Snd m) = omega (arith, size-map m)
-
-  same-size : (a b : Core) → map_tree f g h a ≡ map_tree f g h b → size a ≡ size b
-  same-size a b e = sym (size-map a) ∙ (ap size e ∙ size-map b)
 
   decides : (a b : Core) → IsTrue (agrees names levels a b) ↔ map_tree f g h a ≡ map_tree f g h b
   decides a b = (agrees-same a b, same-agrees a b)
@@ -172,18 +160,13 @@ map-itself (Sigma x a b) i = Sigma x (map-itself a i) (map-itself b i)
 map-itself (Pair x a b m n) i = Pair x (map-itself a i) (map-itself b i) (map-itself m i) (map-itself n i)
 map-itself (Fst m) i = Fst (map-itself m i)
 map-itself (Snd m) i = Snd (map-itself m i)
+map-itself (Let x m n) i = Let x (map-itself m i) (map-itself n i)
 
 pub equal_decides : (a b : Core) → IsTrue (agrees false true a b) ↔ Equal a b
 equal_decides = decides false true _ _ _ levels_kept
 
-pub Equal-size : (a b : Core) → Equal a b → size a ≡ size b
-Equal-size = same-size false true _ _ _ levels_kept
-
 pub but_levels_decides : (a b : Core) → IsTrue (agrees false false a b) ↔ EqualButLevels a b
 but_levels_decides = decides false false _ _ _ shape_kept
-
-pub EqualButLevels-size : (a b : Core) → EqualButLevels a b → size a ≡ size b
-EqualButLevels-size = same-size false false _ _ _ shape_kept
 
 pub identical_decides : (a b : Core) → IsTrue (agrees true true a b) ↔ a ≡ b
 identical_decides a b =

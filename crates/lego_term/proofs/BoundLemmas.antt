@@ -4,7 +4,7 @@ use Rattle.std.specs.Prelude.{unwrap_or, option_map}
 use Rattle.std.specs.List.{list_any}
 use Rattle.std.proofs.lemmas.List.Folds.{list_any-append}
 use Rattle.std.proofs.lemmas.Bool.Decides.{nat_tests}
-use Rattle.lego_term.specs.Trees.{Core, Var, Const, Prop, Univ, Pi, Lam, App, Sigma, Pair, Fst, Snd, loose, constants_of, mentions, Bodies, replace_constants, close_over, listed_variable}
+use Rattle.lego_term.specs.Trees.{Core, Var, Const, Prop, Univ, Pi, Lam, App, Sigma, Pair, Fst, Snd, Let, loose, constants_of, mentions, Bodies, replace_constants, close_over, listed_variable}
 use Rattle.lego_term.specs.ConstantBound.{constant_bound, NoneBelow}
 use Rattle.lego_term.specs.declared.binder.Binder.{Binder}
 use Rattle.lego_term.specs.declared.binder.Mark.{Mark}
@@ -28,6 +28,7 @@ mentions-low k (Sigma x a b) h = none_of (nat_eq k) (constants_of a) (constants_
 mentions-low k (Pair x a b m n) h = none_of (nat_eq k) (constants_of a ++ constants_of b ++ constants_of m) (constants_of n) (none_of (nat_eq k) (constants_of a ++ constants_of b) (constants_of m) (none_of (nat_eq k) (constants_of a) (constants_of b) (mentions-low k a (omega arith)) (mentions-low k b (omega arith))) (mentions-low k m (omega arith))) (mentions-low k n (omega arith))
 mentions-low k (Fst m) h = mentions-low k m h
 mentions-low k (Snd m) h = mentions-low k m h
+mentions-low k (Let x m n) h = none_of (nat_eq k) (constants_of m) (constants_of n) (mentions-low k m (omega arith)) (mentions-low k n (omega arith))
 
 pub replace-low : (bodies : Bodies Binder Mark Level) (least : ℕ) (t : Core) → constant_bound t ≤ least → NoneBelow least bodies → replace_constants bodies t ≡ t
 replace-low bodies least (Var i) h none = refl
@@ -41,6 +42,7 @@ replace-low bodies least (Sigma x a b) h none = λ i. Sigma x (replace-low bodie
 replace-low bodies least (Pair x a b m n) h none = λ i. Pair x (replace-low bodies least a (omega arith) none i) (replace-low bodies least b (omega arith) none i) (replace-low bodies least m (omega arith) none i) (replace-low bodies least n (omega arith) none i)
 replace-low bodies least (Fst m) h none = ap Fst (replace-low bodies least m h none)
 replace-low bodies least (Snd m) h none = ap Snd (replace-low bodies least m h none)
+replace-low bodies least (Let x m n) h none = λ i. Let x (replace-low bodies least m (omega arith) none i) (replace-low bodies least n (omega arith) none i)
 
 var_stays : (under by n : ℕ) → suc n ≤ under → (if nat_lt n under then n else n + by) ≡ n
 var_stays under by n h = grind (arith, nat_tests)
@@ -57,6 +59,7 @@ close-low ns least under (Sigma x a b) l h none = λ i. Sigma x (close-low ns le
 close-low ns least under (Pair x a b m n) l h none = λ i. Pair x (close-low ns least under a (omega arith) (omega arith) none i) (close-low ns least (suc under) b (omega arith) (omega arith) none i) (close-low ns least under m (omega arith) (omega arith) none i) (close-low ns least under n (omega arith) (omega arith) none i)
 close-low ns least under (Fst m) l h none = ap Fst (close-low ns least under m l h none)
 close-low ns least under (Snd m) l h none = ap Snd (close-low ns least under m l h none)
+close-low ns least under (Let x m n) l h none = λ i. Let x (close-low ns least under m (omega arith) (omega arith) none i) (close-low ns least (suc under) n (omega arith) (omega arith) none i)
 
 later : (n k : ℕ) → suc k ≤ n → nat_eq n k ≡ false
 later n k h = grind (arith, nat_tests)

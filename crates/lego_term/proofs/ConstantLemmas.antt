@@ -7,7 +7,7 @@ use Rattle.std.proofs.lemmas.List.{drop_more, drop_all}
 use Rattle.std.specs.Map.{lookup}
 use Rattle.std.proofs.lemmas.Bool.Decides.{nat_tests}
 use Rattle.std.proofs.Common.{length-drop}
-use Rattle.lego_term.specs.Trees.{Core, Var, Const, Prop, Univ, Pi, Lam, App, Sigma, Pair, Fst, Snd, size, depth, close_over, listed_variable, replace_constants}
+use Rattle.lego_term.specs.Trees.{Core, Var, Const, Prop, Univ, Pi, Lam, App, Sigma, Pair, Fst, Snd, Let, size, depth, close_over, listed_variable, replace_constants}
 use Rattle.lego_term.specs.Listed.{HasVariables}
 use Rattle.lego_term.specs.Made.{Makes, Fits, first_over}
 use Rattle.std.specs.FinMap as map
@@ -35,6 +35,7 @@ size-close ns under (Sigma x a b) = omega (arith, size-close ns under a, size-cl
 size-close ns under (Pair x a b m n) = omega (arith, size-close ns under a, size-close ns (suc under) b, size-close ns under m, size-close ns under n)
 size-close ns under (Fst m) = omega (arith, size-close ns under m)
 size-close ns under (Snd m) = omega (arith, size-close ns under m)
+size-close ns under (Let x m n) = omega (arith, size-close ns under m, size-close ns (suc under) n)
 
 depth_of : (o : Option ℕ) (d k : ℕ) → depth (variable_or o d k) ≡ 1
 depth_of None d k = refl
@@ -52,6 +53,7 @@ depth-close ns under (Sigma x a b) = omega (arith, depth-close ns under a, depth
 depth-close ns under (Pair x a b m n) = omega (arith, depth-close ns under a, depth-close ns (suc under) b, depth-close ns under m, depth-close ns under n)
 depth-close ns under (Fst m) = omega (arith, depth-close ns under m)
 depth-close ns under (Snd m) = omega (arith, depth-close ns under m)
+depth-close ns under (Let x m n) = omega (arith, depth-close ns under m, depth-close ns (suc under) n)
 
 -- where the tree that is closed fits, making the closed one meets no limit
 pub close_err : (ns : List ℕ) (under : ℕ) (t u : Core) (r : Result Core TermFault) → u ≡ close_over ns under t → Fits t → Makes u r → IfErr r (λ fault. fault ≡ Memory)

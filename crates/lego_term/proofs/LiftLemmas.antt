@@ -1,7 +1,7 @@
 -- What lifting leaves: the size, the depth, and a tree whose loose variables are all below the bound.
 use Rattle.std.proofs.Common.{◌≡◌, ℕ, suc, ◌+◌, ◌≤◌, nat_lt, if◌then◌else◌, refl, ap, ◌∙◌, inl, inr, arith, IfErr, Result, Ok, Err}
 use Rattle.std.proofs.lemmas.Bool.Decides.{nat_tests}
-use Rattle.lego_term.specs.Trees.{Core, Var, Const, Prop, Univ, Pi, Lam, App, Sigma, Pair, Fst, Snd, size, depth, loose, lift}
+use Rattle.lego_term.specs.Trees.{Core, Var, Const, Prop, Univ, Pi, Lam, App, Sigma, Pair, Fst, Snd, Let, size, depth, loose, lift}
 use Rattle.lego_term.specs.Made.{Makes, Fits}
 use Rattle.lego_term.specs.declared.fault.TermFault.{TermFault}
 use Rattle.lego_term.specs.declared.fault.TermFault.TheVariants.{TooLarge, Memory}
@@ -18,6 +18,7 @@ size-lift from by (Sigma x a b) = omega (arith, size-lift from by a, size-lift (
 size-lift from by (Pair x a b m n) = omega (arith, size-lift from by a, size-lift (suc from) by b, size-lift from by m, size-lift from by n)
 size-lift from by (Fst m) = omega (arith, size-lift from by m)
 size-lift from by (Snd m) = omega (arith, size-lift from by m)
+size-lift from by (Let x m n) = omega (arith, size-lift from by m, size-lift (suc from) by n)
 
 pub depth-lift : (from by : ℕ) (t : Core) → depth (lift from by t) ≡ depth t
 depth-lift from by (Var i) = refl
@@ -31,6 +32,7 @@ depth-lift from by (Sigma x a b) = omega (arith, depth-lift from by a, depth-lif
 depth-lift from by (Pair x a b m n) = omega (arith, depth-lift from by a, depth-lift (suc from) by b, depth-lift from by m, depth-lift from by n)
 depth-lift from by (Fst m) = omega (arith, depth-lift from by m)
 depth-lift from by (Snd m) = omega (arith, depth-lift from by m)
+depth-lift from by (Let x m n) = omega (arith, depth-lift from by m, depth-lift (suc from) by n)
 
 index_stays : (from by n : ℕ) → suc n ≤ from → (if nat_lt n from then n else n + by) ≡ n
 index_stays from by n h = grind (arith, nat_tests)
@@ -47,6 +49,7 @@ lift-low from by (Sigma x a b) h i = Sigma x (lift-low from by a (omega arith) i
 lift-low from by (Pair x a b m n) h i = Pair x (lift-low from by a (omega arith) i) (lift-low (suc from) by b (omega arith) i) (lift-low from by m (omega arith) i) (lift-low from by n (omega arith) i)
 lift-low from by (Fst m) h i = Fst (lift-low from by m h i)
 lift-low from by (Snd m) h i = Snd (lift-low from by m h i)
+lift-low from by (Let x m n) h i = Let x (lift-low from by m (omega arith) i) (lift-low (suc from) by n (omega arith) i)
 
 -- where the tree that is lifted fits, making the lifted one meets no limit
 pub lift_err : (from by : ℕ) (t u : Core) (r : Result Core TermFault) → u ≡ lift from by t → Fits t → Makes u r → IfErr r (λ fault. fault ≡ Memory)

@@ -1,7 +1,7 @@
 -- Lifting and substitution raise the bound on the loose variables by no more than what is put.
 use Rattle.std.proofs.Common.{◌≡◌, ℕ, suc, pred, max, ◌+◌, ◌-◌, ◌<◌, ◌≤◌, nat_lt, nat_eq, if◌then◌else◌, true, false, refl, arith}
 use Rattle.std.proofs.lemmas.Bool.Decides.{nat_tests}
-use Rattle.lego_term.specs.Trees.{Core, Var, Const, Prop, Univ, Pi, Lam, App, Sigma, Pair, Fst, Snd, loose, lift, put, put_var, instantiate}
+use Rattle.lego_term.specs.Trees.{Core, Var, Const, Prop, Univ, Pi, Lam, App, Sigma, Pair, Fst, Snd, Let, loose, lift, put, put_var, instantiate}
 
 lifted_index : (from by n : ℕ) → suc (if nat_lt n from then n else n + by) ≤ suc n + by
 lifted_index from by n = grind (arith, nat_tests)
@@ -18,6 +18,7 @@ loose-lift from by (Sigma x a b) = omega (arith, loose-lift from by a, loose-lif
 loose-lift from by (Pair x a b m n) = omega (arith, loose-lift from by a, loose-lift (suc from) by b, loose-lift from by m, loose-lift from by n)
 loose-lift from by (Fst m) = omega (arith, loose-lift from by m)
 loose-lift from by (Snd m) = omega (arith, loose-lift from by m)
+loose-lift from by (Let x m n) = omega (arith, loose-lift from by m, loose-lift (suc from) by n)
 
 put_index : (d n : ℕ) (v : Core) → loose (put_var d v n) ≤ max (d + loose v) n
 put_index d n v =
@@ -42,6 +43,7 @@ loose-put d v (Sigma x a b) = omega (arith, loose-put d v a, loose-put (suc d) v
 loose-put d v (Pair x a b m n) = omega (arith, loose-put d v a, loose-put (suc d) v b, loose-put d v m, loose-put d v n)
 loose-put d v (Fst m) = omega (arith, loose-put d v m)
 loose-put d v (Snd m) = omega (arith, loose-put d v m)
+loose-put d v (Let x m n) = omega (arith, loose-put d v m, loose-put (suc d) v n)
 
 pub loose-instantiate : (m n : Core) → loose (instantiate m n) ≤ max (loose n) (pred (loose m))
 unfolding instantiate

@@ -1,7 +1,7 @@
 -- No part of a tree that fits passes a limit.
 use Rattle.std.proofs.Common.{◌≡◌, ℕ, ◌≤◌, true, nat_le, refl, arith, None}
 use Rattle.std.proofs.lemmas.Bool.Decides.{nat_tests}
-use Rattle.lego_term.specs.Trees.{Core, Var, Const, Prop, Univ, Pi, Lam, App, Sigma, Pair, Fst, Snd, size, depth}
+use Rattle.lego_term.specs.Trees.{Core, Var, Const, Prop, Univ, Pi, Lam, App, Sigma, Pair, Fst, Snd, Let, size, depth}
 use Rattle.lego_term.specs.Made.{over, first_over}
 
 le_true : (a b : ℕ) → a ≤ b → nat_le a b ≡ true
@@ -22,3 +22,4 @@ first_over-fits (Sigma x a b) s d = rw (first_over-fits a (omega arith) (omega a
 first_over-fits (Pair x a b m n) s d = rw (first_over-fits a (omega arith) (omega arith), first_over-fits b (omega arith) (omega arith), first_over-fits m (omega arith) (omega arith), first_over-fits n (omega arith) (omega arith)) (over-fits (Pair x a b m n) s d)
 first_over-fits (Fst m) s d = rw (first_over-fits m (omega arith) (omega arith)) (over-fits (Fst m) s d)
 first_over-fits (Snd m) s d = rw (first_over-fits m (omega arith) (omega arith)) (over-fits (Snd m) s d)
+first_over-fits (Let x m n) s d = rw (first_over-fits m (omega arith) (omega arith), first_over-fits n (omega arith) (omega arith)) (over-fits (Let x m n) s d)

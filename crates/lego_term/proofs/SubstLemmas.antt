@@ -1,7 +1,7 @@
 -- A tree whose loose variables are all below the place stays as it is; at the place stands the value.
 use Rattle.std.proofs.Common.{◌≡◌, ℕ, suc, ◌≤◌, nat_lt, nat_eq, true, false, refl, ap, sym, ◌∙◌, arith, IfOk, IfErr, Result, Ok, Err}
 use Rattle.std.proofs.lemmas.Bool.Decides.{nat_tests}
-use Rattle.lego_term.specs.Trees.{Core, Var, Const, Prop, Univ, Pi, Lam, App, Sigma, Pair, Fst, Snd, size, depth, loose, lift, put}
+use Rattle.lego_term.specs.Trees.{Core, Var, Const, Prop, Univ, Pi, Lam, App, Sigma, Pair, Fst, Snd, Let, size, depth, loose, lift, put}
 use Rattle.lego_term.specs.Made.{Fits, first_over, Rebuilds}
 use Rattle.lego_term.specs.declared.fault.TermFault.{TermFault}
 use Rattle.lego_term.specs.declared.fault.TermFault.TheVariants.{TooLarge, Memory}
@@ -26,6 +26,7 @@ put-low at v (Sigma x a b) h i = Sigma x (put-low at v a (omega arith) i) (put-l
 put-low at v (Pair x a b m n) h i = Pair x (put-low at v a (omega arith) i) (put-low (suc at) v b (omega arith) i) (put-low at v m (omega arith) i) (put-low at v n (omega arith) i)
 put-low at v (Fst m) h i = Fst (put-low at v m h i)
 put-low at v (Snd m) h i = Snd (put-low at v m h i)
+put-low at v (Let x m n) h i = Let x (put-low at v m (omega arith) i) (put-low (suc at) v n (omega arith) i)
 
 lt_false : (a b : ℕ) → a ≡ b → nat_lt a b ≡ false
 lt_false a b e = grind (arith, nat_tests)

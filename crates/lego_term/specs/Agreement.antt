@@ -1,6 +1,6 @@
 -- The test by which two terms are compared, one pair of nodes after the other.
 use Rattle.std.specs.Prelude.{ℕ, Bool, true, false, ◌&&◌, ◌||◌, not, nat_eq, Option, None, Some}
-use Rattle.lego_term.specs.Trees.{Core, Var, Const, Prop, Univ, Pi, Lam, App, Sigma, Pair, Fst, Snd}
+use Rattle.lego_term.specs.Trees.{Core, Var, Const, Prop, Univ, Pi, Lam, App, Sigma, Pair, Fst, Snd, Let}
 use Rattle.lego_term.specs.declared.binder.Binder.{Binder}
 use Rattle.lego_term.specs.declared.binder.Mark.{Mark}
 use Rattle.lego_term.specs.declared.binder.Mark.TheVariants.{Plain, Implicit}
@@ -36,4 +36,5 @@ agrees names levels (Pair x a b m n) (Pair y c d p q) =
     (not names || same_binder x y) && agrees names levels a c && agrees names levels b d && agrees names levels m p && agrees names levels n q
 agrees names levels (Fst a) (Fst c) = agrees names levels a c
 agrees names levels (Snd a) (Snd c) = agrees names levels a c
+agrees names levels (Let x a b) (Let y c d) = (not names || same_binder x y) && agrees names levels a c && agrees names levels b d
 agrees names levels _ _ = false

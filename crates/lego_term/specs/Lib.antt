@@ -4,8 +4,11 @@ pub mod Steps
 pub mod Below
 pub mod Sequences
 pub mod Parts
+pub mod Numbered
+pub mod Weight
 pub mod TreeCode
 pub mod ConstantBound
+pub mod Digest
 pub mod Form
 pub mod TermFalls
 pub mod Made
@@ -14,3 +17,4 @@ pub mod BodyMap
 pub mod Agreement
 pub mod Listed
 pub mod formers
+pub mod private

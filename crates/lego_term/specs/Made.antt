@@ -1,6 +1,6 @@
 -- What a call that makes a term answers.
 use Rattle.std.specs.Prelude.{◌≡◌, ℕ, ◌≤◌, ◌<◌, ◌⊎◌, ◌&&◌, nat_le, if◌then◌else◌, Option, Some, None, Result, Ok, Err}
-use Rattle.lego_term.specs.Trees.{Core, Var, Const, Prop, Univ, Pi, Lam, App, Sigma, Pair, Fst, Snd, size, depth}
+use Rattle.lego_term.specs.Trees.{Core, Var, Const, Prop, Univ, Pi, Lam, App, Sigma, Pair, Fst, Snd, Let, size, depth}
 use Rattle.lego_term.specs.declared.fault.TermFault.{TermFault}
 use Rattle.lego_term.specs.declared.fault.TermFault.TheVariants.{TooLarge, Memory}
 
@@ -42,6 +42,7 @@ first_over (Pair x a b m n) =
     either_of (first_over a) (either_of (first_over b) (either_of (first_over m) (either_of (first_over n) (over (Pair x a b m n)))))
 first_over (Fst m) = either_of (first_over m) (over (Fst m))
 first_over (Snd m) = either_of (first_over m) (over (Snd m))
+first_over (Let x m n) = either_of (first_over m) (either_of (first_over n) (over (Let x m n)))
 
 -- the answer is the tree, or the numbers of its first subtree that passes a limit, unless memory ran out
 abbrev pub Rebuilds : Core → Result Core TermFault → Type 0

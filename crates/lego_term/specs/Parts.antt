@@ -1,11 +1,11 @@
 -- The form of a term, its parts and its subtrees.
 use Rattle.std.specs.Prelude.{◌≡◌, ℕ, suc, ◌+◌, List, [], ◌∷◌, nat_eq, if◌then◌else◌, Option, Some, None, option_and_then, slice_get, ◌<◌, ◌⊎◌}
-use Rattle.lego_term.specs.Trees.{Core, Var, Const, Pi, Lam, App, Sigma, Pair, Fst, Snd, size, depth}
+use Rattle.lego_term.specs.Trees.{Core, Var, Const, Pi, Lam, App, Sigma, Pair, Fst, Snd, Let, size, depth}
 use Rattle.lego_term.specs.declared.binder.Binder.{Binder}
 
 -- the forms with parts
 pub data Shape : Type 0 where
-  APi ALam AnApp ASigma APair AFst ASnd : Shape
+  APi ALam AnApp ASigma APair AFst ASnd ALet : Shape
 
 abbrev pub shape_of : Core → Option Shape
 shape_of (Pi x a b) = Some APi
@@ -15,6 +15,7 @@ shape_of (Sigma x a b) = Some ASigma
 shape_of (Pair x a b m n) = Some APair
 shape_of (Fst m) = Some AFst
 shape_of (Snd m) = Some ASnd
+shape_of (Let x m n) = Some ALet
 shape_of _ = None
 
 -- a part, and the binder under which it stands, if any
@@ -37,6 +38,7 @@ parts_of (Sigma x a b) = plain_part a ∷ bound_part x b ∷ []
 parts_of (Pair x a b m n) = plain_part a ∷ bound_part x b ∷ plain_part m ∷ plain_part n ∷ []
 parts_of (Fst m) = plain_part m ∷ []
 parts_of (Snd m) = plain_part m ∷ []
+parts_of (Let x m n) = plain_part m ∷ bound_part x n ∷ []
 parts_of _ = []
 
 -- how many of the outermost locals, in order, a constant is applied to, where the term is that
@@ -46,9 +48,12 @@ own_arguments depth (App mark m (Var i)) =
     option_and_then (λ n. if nat_eq (suc (i + n)) depth then Some (suc n) else None) (own_arguments depth m)
 own_arguments depth _ = None
 
+-- the constant below applications and projections, where one is there
 abbrev pub head_constant : Core → Option ℕ
 head_constant (Const k) = Some k
 head_constant (App mark m n) = head_constant m
+head_constant (Fst m) = head_constant m
+head_constant (Snd m) = head_constant m
 head_constant _ = None
 
 -- u is a subtree of t

@@ -1,6 +1,6 @@
 -- Head sequences, normalisation sequences and their lengths.
 use Rattle.std.specs.Prelude.{◌≡◌, ℕ, zero, suc, ◌+◌, Option, Some, None, option_map, option_and_then}
-use Rattle.lego_term.specs.Trees.{Tree, Var, Const, Prop, Univ, Pi, Lam, App, Sigma, Pair, Fst, Snd, Bodies, instantiate}
+use Rattle.lego_term.specs.Trees.{Tree, Var, Const, Prop, Univ, Pi, Lam, App, Sigma, Pair, Fst, Snd, Let, Bodies, instantiate}
 
 -- the first option where it has a value, else the second
 abbrev pub or_else : {X : Type 0} → Option X → Option X → Option X
@@ -27,6 +27,7 @@ head_step bodies (Const k) = bodies k
 head_step bodies (App k m n) = or_else (contract_app m n) (option_map (λ m'. App k m' n) (head_step bodies m))
 head_step bodies (Fst m) = or_else (contract_fst m) (option_map Fst (head_step bodies m))
 head_step bodies (Snd m) = or_else (contract_snd m) (option_map Snd (head_step bodies m))
+head_step bodies (Let x m n) = Some (instantiate n m)
 head_step bodies _ = None
 
 -- The next step of the normalisation sequence: the head step, else that of the first part, left to right, that has one.
@@ -50,6 +51,7 @@ normal_step bodies (Pair x a b m n) =
     (or_else (option_map (λ m'. Pair x a b m' n) (normal_step bodies m)) (option_map (λ n'. Pair x a b m n') (normal_step bodies n))))
 normal_step bodies (Fst m) = or_else (head_step bodies (Fst m)) (option_map Fst (normal_step bodies m))
 normal_step bodies (Snd m) = or_else (head_step bodies (Snd m)) (option_map Snd (normal_step bodies m))
+normal_step bodies (Let x m n) = Some (instantiate n m)
 
 -- the term behind so many steps, where the sequence has them
 abbrev pub after : {T : Type 0} → (T → Option T) → ℕ → T → Option T

@@ -1,12 +1,13 @@
 -- Contraction at one place, and the equivalence that it generates.
 use Rattle.std.specs.Prelude.{◌≡◌, ℕ, Some}
-use Rattle.lego_term.specs.Trees.{Tree, Const, Pi, Lam, App, Sigma, Pair, Fst, Snd, Bodies, instantiate}
+use Rattle.lego_term.specs.Trees.{Tree, Const, Pi, Lam, App, Sigma, Pair, Fst, Snd, Let, Bodies, instantiate}
 
--- what is contracted: a redex of beta or sigma, or a constant with a body
+-- what is contracted: a redex of beta or sigma, a local definition, or a constant with a body
 pub data Contracts {B M L : Type 0} (bodies : Bodies B M L) : Tree B M L → Tree B M L → Type 0 where
   beta : {k : M} {x : B} {a m n : Tree B M L} → Contracts bodies (App k (Lam x a m) n) (instantiate m n)
   first : {x : B} {a b m n : Tree B M L} → Contracts bodies (Fst (Pair x a b m n)) m
   second : {x : B} {a b m n : Tree B M L} → Contracts bodies (Snd (Pair x a b m n)) n
+  local : {x : B} {m n : Tree B M L} → Contracts bodies (Let x m n) (instantiate n m)
   unfolds : {k : ℕ} {m : Tree B M L} → bodies k ≡ Some m → Contracts bodies (Const k) m
 
 -- a step contracts one place
@@ -26,6 +27,8 @@ pub data Step {B M L : Type 0} (bodies : Bodies B M L) : Tree B M L → Tree B M
   pair_second : {x : B} {a b m n n' : Tree B M L} → Step bodies n n' → Step bodies (Pair x a b m n) (Pair x a b m n')
   fst_operand : {m m' : Tree B M L} → Step bodies m m' → Step bodies (Fst m) (Fst m')
   snd_operand : {m m' : Tree B M L} → Step bodies m m' → Step bodies (Snd m) (Snd m')
+  local_value : {x : B} {m m' n : Tree B M L} → Step bodies m m' → Step bodies (Let x m n) (Let x m' n)
+  local_body : {x : B} {m n n' : Tree B M L} → Step bodies n n' → Step bodies (Let x m n) (Let x m n')
 
 -- the least equivalence that contains the steps, on all terms, typed or not
 pub data Converts {B M L : Type 0} (bodies : Bodies B M L) : Tree B M L → Tree B M L → Type 0 where

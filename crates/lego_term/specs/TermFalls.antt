@@ -4,10 +4,10 @@ use Rattle.std.proofs.Common.{arith}
 use Rattle.lego_term.specs.Trees.{size}
 use Rattle.lego_term.specs.Form.{tree_of}
 use Rattle.lego_term.specs.declared.term.Form.{Form}
-use Rattle.lego_term.specs.declared.term.Form.TheVariants.{Var, Const, Prop, Univ, Pi, Lam, App, Sigma, Pair, Fst, Snd}
+use Rattle.lego_term.specs.declared.term.Form.TheVariants.{Var, Const, Prop, Univ, Pi, Lam, App, Sigma, Pair, Fst, Snd, Local}
 use Rattle.lego_term.specs.declared.term.Term.TheDeep.{deep-Form}
 
-pub deep_le-size : (f : Form) → max (deep-Form f) 0 ≤ size (tree_of f)
+pub deep_le-size : (f : Form) → max (max (deep-Form f) 0) 0 ≤ size (tree_of f)
 deep_le-size (Var i) = omega arith
 deep_le-size (Const k) = omega arith
 deep_le-size Prop = omega arith
@@ -19,3 +19,4 @@ deep_le-size (Sigma b x y) = omega arith
 deep_le-size (Pair b x y m n) = omega arith
 deep_le-size (Fst m) = omega arith
 deep_le-size (Snd m) = omega arith
+deep_le-size (Local b x y) = omega arith

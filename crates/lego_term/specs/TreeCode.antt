@@ -2,7 +2,7 @@
 use Rattle.std.specs.Prelude.{◌≡◌, ℕ, nat_eq, if◌then◌else◌, refl, Option, None, Some}
 use base.Stored.{Gv, gnil, gnum, gcons, Coded}
 use denote.Struct.Codes.{itself, code_by}
-use Rattle.lego_term.specs.Trees.{Core, Var, Const, Prop, Univ, Pi, Lam, App, Sigma, Pair, Fst, Snd}
+use Rattle.lego_term.specs.Trees.{Core, Var, Const, Prop, Univ, Pi, Lam, App, Sigma, Pair, Fst, Snd, Let}
 use Rattle.lego_term.specs.declared.binder.Binder.{Binder}
 use Rattle.lego_term.specs.declared.level.Level.{Level}
 use Rattle.lego_term.specs.declared.binder.Mark.{Mark}
@@ -69,6 +69,7 @@ from_tree (Sigma b x y) = node 7 (from_binder b) (from_tree x) (from_tree y) gni
 from_tree (Pair b x y m n) = node 8 (from_binder b) (from_tree x) (from_tree y) (from_tree m) (from_tree n)
 from_tree (Fst m) = node 9 gnil (from_tree m) gnil gnil gnil
 from_tree (Snd m) = node 10 gnil (from_tree m) gnil gnil gnil
+from_tree (Let b x y) = node 11 (from_binder b) (from_tree x) (from_tree y) gnil gnil
 
 abbrev built : ℕ → Gv → Core → Core → Core → Core → Core
 built kind held a b c d =
@@ -82,7 +83,8 @@ built kind held a b c d =
     else (if nat_eq kind 8 then Pair (to_binder held) a b c d
     else (if nat_eq kind 9 then Fst a
     else (if nat_eq kind 10 then Snd a
-    else Prop)))))))))
+    else (if nat_eq kind 11 then Let (to_binder held) a b
+    else Prop))))))))))
 
 abbrev to_tree : Gv → Core
 to_tree (gcons kind (gcons (gcons a b) (gcons c d))) = built (number (first kind)) (second kind) (to_tree a) (to_tree b) (to_tree c) (to_tree d)
@@ -114,6 +116,7 @@ tree_back (Sigma b x y) i = Sigma (binder_back b i) (tree_back x i) (tree_back y
 tree_back (Pair b x y m n) i = Pair (binder_back b i) (tree_back x i) (tree_back y i) (tree_back m i) (tree_back n i)
 tree_back (Fst m) i = Fst (tree_back m i)
 tree_back (Snd m) i = Snd (tree_back m i)
+tree_back (Let b x y) i = Let (binder_back b i) (tree_back x i) (tree_back y i)
 
 abbrev pub tree_code : Coded Core
 tree_code = code_by Gv itself from_tree to_tree tree_back

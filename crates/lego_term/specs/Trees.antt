@@ -7,7 +7,8 @@ use Rattle.lego_term.specs.declared.binder.Mark.{Mark}
 use Rattle.lego_term.specs.declared.level.Level.{Level}
 
 -- A tree whose binders carry a B, whose applications carry an M, and whose universes have a level in L.
--- `Var i` counts the binders between itself and its own, from 0. `Pair x A B M N` is (M, N : <x : A> B).
+-- `Var i` counts the binders between itself and its own, from 0. `Pair x A B M N` is (M, N : <x : A> B), and
+-- `Let x M N` is [x = M] N, which binds x in N.
 pub data Tree (B M L : Type 0) : Type 0 where
   Var : ℕ → Tree B M L
   Const : ℕ → Tree B M L
@@ -20,6 +21,7 @@ pub data Tree (B M L : Type 0) : Type 0 where
   Pair : B → Tree B M L → Tree B M L → Tree B M L → Tree B M L → Tree B M L
   Fst : Tree B M L → Tree B M L
   Snd : Tree B M L → Tree B M L
+  Let : B → Tree B M L → Tree B M L → Tree B M L
 
 -- a term as the program keeps it: with names and marks, and levels that may be variables
 abbrev pub Core : Type 0
@@ -42,6 +44,7 @@ map_tree f g h (Sigma x a b) = Sigma (f x) (map_tree f g h a) (map_tree f g h b)
 map_tree f g h (Pair x a b m n) = Pair (f x) (map_tree f g h a) (map_tree f g h b) (map_tree f g h m) (map_tree f g h n)
 map_tree f g h (Fst m) = Fst (map_tree f g h m)
 map_tree f g h (Snd m) = Snd (map_tree f g h m)
+map_tree f g h (Let x m n) = Let (f x) (map_tree f g h m) (map_tree f g h n)
 
 -- the term with each level replaced by its value, and without names and marks
 abbrev pub at : Assignment → Core → Term
@@ -76,6 +79,7 @@ size (Sigma x a b) = suc (size a + size b)
 size (Pair x a b m n) = suc (size a + size b + size m + size n)
 size (Fst m) = suc (size m)
 size (Snd m) = suc (size m)
+size (Let x m n) = suc (size m + size n)
 
 -- a leaf has depth 1
 abbrev pub depth : {B M L : Type 0} → Tree B M L → ℕ
@@ -90,6 +94,7 @@ depth (Sigma x a b) = suc (max (depth a) (depth b))
 depth (Pair x a b m n) = suc (max (max (depth a) (depth b)) (max (depth m) (depth n)))
 depth (Fst m) = suc (depth m)
 depth (Snd m) = suc (depth m)
+depth (Let x m n) = suc (max (depth m) (depth n))
 
 -- the bound on the loose variables: each is below it
 abbrev pub loose : {B M L : Type 0} → Tree B M L → ℕ
@@ -104,6 +109,7 @@ loose (Sigma x a b) = max (loose a) (pred (loose b))
 loose (Pair x a b m n) = max (max (loose a) (pred (loose b))) (max (loose m) (loose n))
 loose (Fst m) = loose m
 loose (Snd m) = loose m
+loose (Let x m n) = max (loose m) (pred (loose n))
 
 -- the levels of the universes, left to right
 abbrev pub levels_of : {B M L : Type 0} → Tree B M L → List L
@@ -118,6 +124,7 @@ levels_of (Sigma x a b) = levels_of a ++ levels_of b
 levels_of (Pair x a b m n) = levels_of a ++ levels_of b ++ levels_of m ++ levels_of n
 levels_of (Fst m) = levels_of m
 levels_of (Snd m) = levels_of m
+levels_of (Let x m n) = levels_of m ++ levels_of n
 
 -- the constants, left to right
 abbrev pub constants_of : {B M L : Type 0} → Tree B M L → List ℕ
@@ -132,6 +139,7 @@ constants_of (Sigma x a b) = constants_of a ++ constants_of b
 constants_of (Pair x a b m n) = constants_of a ++ constants_of b ++ constants_of m ++ constants_of n
 constants_of (Fst m) = constants_of m
 constants_of (Snd m) = constants_of m
+constants_of (Let x m n) = constants_of m ++ constants_of n
 
 -- whether the constant, the level variable, the variable occurs in the term
 abbrev pub mentions : {B M L : Type 0} → ℕ → Tree B M L → Bool
@@ -155,20 +163,33 @@ uses_variable i (Sigma x a b) = uses_variable i a || uses_variable (suc i) b
 uses_variable i (Pair x a b m n) = uses_variable i a || uses_variable (suc i) b || uses_variable i m || uses_variable i n
 uses_variable i (Fst m) = uses_variable i m
 uses_variable i (Snd m) = uses_variable i m
+uses_variable i (Let x m n) = uses_variable i m || uses_variable (suc i) n
+
+-- The tree with each variable and each constant replaced, where `variable` and `constant` are given a state that
+-- `under` changes at each binder crossed.
+abbrev pub map_leaves : {S B M L : Type 0} → (S → S) → (S → ℕ → Tree B M L) → (S → ℕ → Tree B M L) → S → Tree B M L → Tree B M L
+map_leaves under variable constant s (Var i) = variable s i
+map_leaves under variable constant s (Const k) = constant s k
+map_leaves under variable constant s Prop = Prop
+map_leaves under variable constant s (Univ l) = Univ l
+map_leaves under variable constant s (Pi x a b) =
+    Pi x (map_leaves under variable constant s a) (map_leaves under variable constant (under s) b)
+map_leaves under variable constant s (Lam x a m) =
+    Lam x (map_leaves under variable constant s a) (map_leaves under variable constant (under s) m)
+map_leaves under variable constant s (App k m n) =
+    App k (map_leaves under variable constant s m) (map_leaves under variable constant s n)
+map_leaves under variable constant s (Sigma x a b) =
+    Sigma x (map_leaves under variable constant s a) (map_leaves under variable constant (under s) b)
+map_leaves under variable constant s (Pair x a b m n) =
+    Pair x (map_leaves under variable constant s a) (map_leaves under variable constant (under s) b) (map_leaves under variable constant s m) (map_leaves under variable constant s n)
+map_leaves under variable constant s (Fst m) = Fst (map_leaves under variable constant s m)
+map_leaves under variable constant s (Snd m) = Snd (map_leaves under variable constant s m)
+map_leaves under variable constant s (Let x m n) =
+    Let x (map_leaves under variable constant s m) (map_leaves under variable constant (under s) n)
 
 -- adds `by` to each variable at or above `from`, which rises by 1 under each binder
 abbrev pub lift : {B M L : Type 0} → ℕ → ℕ → Tree B M L → Tree B M L
-lift from by (Var i) = Var (if nat_lt i from then i else i + by)
-lift from by (Const k) = Const k
-lift from by Prop = Prop
-lift from by (Univ l) = Univ l
-lift from by (Pi x a b) = Pi x (lift from by a) (lift (suc from) by b)
-lift from by (Lam x a m) = Lam x (lift from by a) (lift (suc from) by m)
-lift from by (App k m n) = App k (lift from by m) (lift from by n)
-lift from by (Sigma x a b) = Sigma x (lift from by a) (lift (suc from) by b)
-lift from by (Pair x a b m n) = Pair x (lift from by a) (lift (suc from) by b) (lift from by m) (lift from by n)
-lift from by (Fst m) = Fst (lift from by m)
-lift from by (Snd m) = Snd (lift from by m)
+lift from by = map_leaves suc (λ n i. Var (if nat_lt i n then i else i + by)) (λ n k. Const k) from
 
 -- the variable i where `value`, lifted past the binders crossed, is put for the variable `depth`
 abbrev pub put_var : {B M L : Type 0} → ℕ → Tree B M L → ℕ → Tree B M L
@@ -176,17 +197,7 @@ put_var depth value i = if nat_lt i depth then Var i else if nat_eq i depth then
 
 -- puts `value` for the variable `depth` and lowers the greater variables by 1
 abbrev pub put : {B M L : Type 0} → ℕ → Tree B M L → Tree B M L → Tree B M L
-put depth value (Var i) = put_var depth value i
-put depth value (Const k) = Const k
-put depth value Prop = Prop
-put depth value (Univ l) = Univ l
-put depth value (Pi x a b) = Pi x (put depth value a) (put (suc depth) value b)
-put depth value (Lam x a m) = Lam x (put depth value a) (put (suc depth) value m)
-put depth value (App k m n) = App k (put depth value m) (put depth value n)
-put depth value (Sigma x a b) = Sigma x (put depth value a) (put (suc depth) value b)
-put depth value (Pair x a b m n) = Pair x (put depth value a) (put (suc depth) value b) (put depth value m) (put depth value n)
-put depth value (Fst m) = Fst (put depth value m)
-put depth value (Snd m) = Snd (put depth value m)
+put depth value = map_leaves suc (λ n i. put_var n value i) (λ n k. Const k) depth
 
 -- M[N]: M with N for the variable 0
 unfoldable pub instantiate : {B M L : Type 0} → Tree B M L → Tree B M L → Tree B M L
@@ -198,17 +209,7 @@ Bodies B M L = ℕ → Option (Tree B M L)
 
 -- puts each constant's body for it, once, without going into the bodies, which have no loose variables
 abbrev pub replace_constants : {B M L : Type 0} → Bodies B M L → Tree B M L → Tree B M L
-replace_constants bodies (Var i) = Var i
-replace_constants bodies (Const k) = unwrap_or (bodies k) (Const k)
-replace_constants bodies Prop = Prop
-replace_constants bodies (Univ l) = Univ l
-replace_constants bodies (Pi x a b) = Pi x (replace_constants bodies a) (replace_constants bodies b)
-replace_constants bodies (Lam x a m) = Lam x (replace_constants bodies a) (replace_constants bodies m)
-replace_constants bodies (App k m n) = App k (replace_constants bodies m) (replace_constants bodies n)
-replace_constants bodies (Sigma x a b) = Sigma x (replace_constants bodies a) (replace_constants bodies b)
-replace_constants bodies (Pair x a b m n) = Pair x (replace_constants bodies a) (replace_constants bodies b) (replace_constants bodies m) (replace_constants bodies n)
-replace_constants bodies (Fst m) = Fst (replace_constants bodies m)
-replace_constants bodies (Snd m) = Snd (replace_constants bodies m)
+replace_constants bodies = map_leaves {S = Unit {0}} (λ s. s) (λ s i. Var i) (λ s k. unwrap_or (bodies k) (Const k)) tt
 
 -- the variable that stands for constant k, where it is listed: the last of the list is variable 0
 abbrev pub listed_variable : List ℕ → ℕ → Option ℕ
@@ -217,14 +218,6 @@ listed_variable (n ∷ ns) k = if nat_eq n k then Some (length ns) else listed_v
 
 -- turns the listed constants into variables; `depth` counts the binders crossed, and other loose variables are lifted
 abbrev pub close_over : {B M L : Type 0} → List ℕ → ℕ → Tree B M L → Tree B M L
-close_over ns depth (Var i) = Var (if nat_lt i depth then i else i + length ns)
-close_over ns depth (Const k) = unwrap_or (option_map (λ i. Var (i + depth)) (listed_variable ns k)) (Const k)
-close_over ns depth Prop = Prop
-close_over ns depth (Univ l) = Univ l
-close_over ns depth (Pi x a b) = Pi x (close_over ns depth a) (close_over ns (suc depth) b)
-close_over ns depth (Lam x a m) = Lam x (close_over ns depth a) (close_over ns (suc depth) m)
-close_over ns depth (App k m n) = App k (close_over ns depth m) (close_over ns depth n)
-close_over ns depth (Sigma x a b) = Sigma x (close_over ns depth a) (close_over ns (suc depth) b)
-close_over ns depth (Pair x a b m n) = Pair x (close_over ns depth a) (close_over ns (suc depth) b) (close_over ns depth m) (close_over ns depth n)
-close_over ns depth (Fst m) = Fst (close_over ns depth m)
-close_over ns depth (Snd m) = Snd (close_over ns depth m)
+close_over ns depth =
+    map_leaves suc (λ n i. Var (if nat_lt i n then i else i + length ns))
+    (λ n k. unwrap_or (option_map (λ i. Var (i + n)) (listed_variable ns k)) (Const k)) depth

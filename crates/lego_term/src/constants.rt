@@ -10,7 +10,7 @@ ghost use Rattle.lego_term.specs.declared.fault.TermFault.TheVariants.{Memory};
 
 use crate::bodies::Bodies;
 use crate::fault::TermFault;
-use crate::makers::{app, fst, lam, pair, pi, sigma, snd, variable};
+use crate::makers::{app, fst, lam, local, pair, pi, sigma, snd, variable};
 use crate::term::{Node, Term};
 use std::alloc::{AllocError, Global};
 use std::collections::BTreeMap;
@@ -34,6 +34,7 @@ pub fn mentions(t: &Term, number: u32) -> bool
         }
         Node::Fst(m) => mentions(m, number),
         Node::Snd(m) => mentions(m, number),
+        Node::Local(_, m, n) => mentions(m, number) || mentions(n, number),
     }
 }
 
@@ -84,6 +85,11 @@ pub fn replace_consts(alloc: Global, t: &Term, bodies: &Bodies) -> Result<Term, 
         Node::Snd(of) => {
             let of = replace_consts(alloc, of, bodies)?;
             snd(alloc, &of)
+        }
+        Node::Local(binder, value, body) => {
+            let value = replace_consts(alloc, value, bodies)?;
+            let body = replace_consts(alloc, body, bodies)?;
+            local(alloc, binder, &value, &body)
         }
     }
 }
@@ -192,6 +198,11 @@ fn close_within(
         Node::Snd(of) => {
             let of = close_within(alloc, of, numbers, variables, least, under)?;
             snd(alloc, &of)
+        }
+        Node::Local(binder, value, body) => {
+            let value = close_within(alloc, value, numbers, variables, least, under)?;
+            let body = close_within(alloc, body, numbers, variables, least, under + 1)?;
+            local(alloc, binder, &value, &body)
         }
     }
 }

@@ -4,6 +4,7 @@ ghost use Rattle.lego_term.specs.Trees.{Equal, EqualButLevels};
 ghost use Rattle.lego_term.specs.Agreement.{agrees, same_binder as same_binders, same_mark as same_marks, same_level as same_levels};
 
 use crate::binder::{Binder, Mark};
+use crate::digest::lower_half;
 use crate::level::Level;
 use crate::term::{Node, Term};
 
@@ -11,7 +12,7 @@ use crate::term::{Node, Term};
 pub fn equal(a: &Term, b: &Term) -> bool
     ensures { IsTrue result ↔ Equal a.now b.now }
 {
-    if a.size() != b.size() {
+    if a.digest() != b.digest() {
         return false;
     }
     agree(a, b, false, true)
@@ -21,7 +22,7 @@ pub fn equal(a: &Term, b: &Term) -> bool
 pub fn identical(a: &Term, b: &Term) -> bool
     ensures { IsTrue result ↔ a.now ≡ b.now }
 {
-    if a.size() != b.size() {
+    if a.digest() != b.digest() {
         return false;
     }
     agree(a, b, true, true)
@@ -31,7 +32,7 @@ pub fn identical(a: &Term, b: &Term) -> bool
 pub fn equal_but_levels(a: &Term, b: &Term) -> bool
     ensures { IsTrue result ↔ EqualButLevels a.now b.now }
 {
-    if a.size() != b.size() {
+    if lower_half(a.digest()) != lower_half(b.digest()) {
         return false;
     }
     agree(a, b, false, false)
@@ -74,6 +75,11 @@ fn agree(a: &Term, b: &Term, names: bool, levels: bool) -> bool
         }
         (Node::Fst(a), Node::Fst(c)) => agree(a, c, names, levels),
         (Node::Snd(a), Node::Snd(c)) => agree(a, c, names, levels),
+        (Node::Local(x, a, b), Node::Local(y, c, d)) => {
+            (!names || same_binder(x, y))
+                && agree(a, c, names, levels)
+                && agree(b, d, names, levels)
+        }
         _ => false,
     }
 }

@@ -5,17 +5,19 @@
 mod binder;
 mod bodies;
 mod constants;
+mod digest;
 mod equality;
 mod fault;
 mod level;
 mod lifting;
 mod list;
 mod makers;
+mod numbers;
+mod parts;
 mod seen;
 mod substitution;
 mod term;
-#[cfg(test)]
-mod tests;
+mod weight;
 
 pub use binder::{Binder, Mark};
 pub use bodies::Bodies;
@@ -25,7 +27,9 @@ pub use fault::TermFault;
 pub use level::Level;
 pub use lifting::lift;
 pub use list::List;
-pub use makers::{app, fst, konst, lam, pair, pi, prop, sigma, snd, univ, var};
+pub use makers::{app, fst, konst, lam, local, pair, pi, prop, sigma, snd, univ, var};
+pub use parts::Part;
 pub use seen::Seen;
 pub use substitution::subst;
 pub use term::{MAX_DEPTH, MAX_SIZE, Node, Term};
+pub use weight::{Extent, locals_count_instances, measure};

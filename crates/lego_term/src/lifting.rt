@@ -4,7 +4,7 @@ ghost use Rattle.lego_term.specs.Trees.{depth, loose, lift as lifted};
 ghost use Rattle.lego_term.specs.declared.fault.TermFault.TheVariants.{Memory};
 
 use crate::fault::TermFault;
-use crate::makers::{app, fst, lam, pair, pi, sigma, snd, variable};
+use crate::makers::{app, fst, lam, local, pair, pi, sigma, snd, variable};
 use crate::term::{Node, Term};
 use std::alloc::Global;
 
@@ -64,6 +64,11 @@ pub(crate) fn lift_within(alloc: Global, t: &Term, from: u32, by: u32) -> Result
         Node::Snd(of) => {
             let of = lift_within(alloc, of, from, by)?;
             snd(alloc, &of)
+        }
+        Node::Local(binder, value, body) => {
+            let value = lift_within(alloc, value, from, by)?;
+            let body = lift_within(alloc, body, from + 1, by)?;
+            local(alloc, binder, &value, &body)
         }
     }
 }

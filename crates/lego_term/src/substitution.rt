@@ -5,7 +5,7 @@ ghost use Rattle.lego_term.specs.Made.{Fits, Rebuilds};
 
 use crate::fault::TermFault;
 use crate::lifting::lift_within;
-use crate::makers::{app, fst, lam, pair, pi, sigma, snd, variable};
+use crate::makers::{app, fst, lam, local, pair, pi, sigma, snd, variable};
 use crate::term::{Node, Term};
 use std::alloc::Global;
 
@@ -70,6 +70,11 @@ fn put_at(alloc: Global, t: &Term, value: &Term, at: u32) -> Result<Term, TermFa
         Node::Snd(of) => {
             let of = put_at(alloc, of, value, at)?;
             snd(alloc, &of)
+        }
+        Node::Local(binder, defined, body) => {
+            let defined = put_at(alloc, defined, value, at)?;
+            let body = put_at(alloc, body, value, at + 1)?;
+            local(alloc, binder, &defined, &body)
         }
     }
 }

@@ -3,12 +3,14 @@ ghost use Rattle.std.specs.Prelude.{◌≡◌, ◌≤◌, IfOk};
 ghost use Rattle.lego_term.specs.Trees.{size, depth, loose};
 ghost use Rattle.lego_term.specs.Made.{Makes, Fits};
 ghost use Rattle.lego_term.specs.ConstantBound.{constant_bound};
-ghost use Rattle.lego_term.specs.Form.{tree_of, HasNumbers};
+ghost use Rattle.lego_term.specs.Digest.{digest as digest_of};
+ghost use Rattle.lego_term.specs.Form.{tree_of};
 ghost use Rattle.lego_term.specs.Node.{shown};
 
 use crate::binder::{Binder, Mark};
 use crate::fault::TermFault;
 use crate::level::Level;
+use crate::numbers::Numbers;
 use std::alloc::{AllocError, Global};
 use std::marker::Model;
 use std::rc::Rc;
@@ -23,11 +25,19 @@ pub const MAX_DEPTH: u32 = 2_000;
 #[cycle(term)]
 #[derive(Drop)]
 pub struct Term {
+    root: Rc<Root>,
+}
+
+/// The root of a term, with the numbers of its tree.
+#[cycle(term)]
+#[derive(Drop)]
+pub(crate) struct Root {
     size: u64,
     depth: u32,
     loose: u32,
     constants: u64,
-    form: Rc<Form>,
+    digest: u64,
+    form: Form,
 }
 
 #[cycle(term)]
@@ -44,6 +54,7 @@ pub(crate) enum Form {
     Pair(Binder, Term, Term, Term, Term),
     Fst(Term),
     Snd(Term),
+    Local(Binder, Term, Term),
 }
 
 impl Model for Term {
@@ -56,15 +67,15 @@ impl Model for Term {
 
     ghost use Rattle.lego_term.specs.Form.{tree_of, HasNumbers};
 
-    ghost view = { λ t. tree_of t.form.value };
+    ghost view = { λ t. tree_of t.root.value.form };
 
-    ghost invariant = { λ t. HasNumbers (tree_of t.form.value) t.size t.depth t.loose t.constants };
+    ghost invariant = { λ t. HasNumbers (tree_of t.root.value.form) t.root.value.size t.root.value.depth t.root.value.loose t.root.value.constants t.root.value.digest };
 
     ghost size = { nodes_of };
 
     ghost use Rattle.lego_term.specs.TermFalls.{deep_le-size};
 
-    ghost size_decreases = { λ a h. deep_le-size a.form.value };
+    ghost size_decreases = { λ a h. deep_le-size a.root.value.form };
 }
 
 impl Term {
@@ -73,14 +84,8 @@ impl Term {
         ensures same { IfOk result (λ t. t ≡ self.now) }
         ensures limits { Fits self.now }
     {
-        let form = self.form.clone()?;
-        Ok(Term {
-            size: self.size,
-            depth: self.depth,
-            loose: self.loose,
-            constants: self.constants,
-            form,
-        })
+        let root = self.root.clone()?;
+        Ok(Term { root })
     }
 
     /// The number of nodes.
@@ -88,7 +93,7 @@ impl Term {
         ensures exact { result ≡ size self.now }
         ensures limit { result ≤ 1048576 }
     {
-        self.size
+        self.root.size
     }
 
     /// The number of nodes on the longest way from the root.
@@ -96,7 +101,7 @@ impl Term {
         ensures exact { result ≡ depth self.now }
         ensures limit { result ≤ 2000 }
     {
-        self.depth
+        self.root.depth
     }
 
     /// One more than the greatest loose variable, or 0.
@@ -104,14 +109,21 @@ impl Term {
         ensures exact { result ≡ loose self.now }
         ensures limits { Fits self.now }
     {
-        self.loose
+        self.root.loose
     }
 
     /// One more than the greatest constant, or 0.
     pub(crate) fn constants(&self) -> u64
         ensures { result ≡ constant_bound self.now }
     {
-        self.constants
+        self.root.constants
+    }
+
+    /// A number that equal terms share, and terms that differ hardly ever.
+    pub(crate) fn digest(&self) -> u64
+        ensures { result ≡ digest_of self.now }
+    {
+        self.root.digest
     }
 
     /// The root, with the parts below it.
@@ -119,7 +131,7 @@ impl Term {
         ensures root { shown result ≡ self.now }
         ensures limits { Fits self.now }
     {
-        match &*self.form {
+        match &self.root.form {
             Form::Var(index) => Node::Var(*index),
             Form::Const(number) => Node::Const(*number),
             Form::Prop => Node::Prop,
@@ -131,29 +143,39 @@ impl Term {
             Form::Pair(binder, a, b, m, n) => Node::Pair(*binder, a, b, m, n),
             Form::Fst(of) => Node::Fst(of),
             Form::Snd(of) => Node::Snd(of),
+            Form::Local(binder, value, body) => Node::Local(*binder, value, body),
         }
     }
 
     /// A term of this form, whose numbers are given.
-    pub(crate) fn of(
-        alloc: Global,
-        form: Form,
-        size: u64,
-        depth: u32,
-        loose: u32,
-        constants: u64,
-    ) -> Result<Term, TermFault>
-        requires { HasNumbers (tree_of form) size depth loose constants }
+    pub(crate) fn of(alloc: Global, form: Form, numbers: Numbers) -> Result<Term, TermFault>
+        requires size { numbers.size ≡ size (tree_of form) }
+        requires depth { numbers.depth ≡ depth (tree_of form) }
+        requires loose { numbers.loose ≡ loose (tree_of form) }
+        requires constants { numbers.constants ≡ constant_bound (tree_of form) }
+        requires digest { numbers.digest ≡ digest_of (tree_of form) }
         ensures { Makes (tree_of form) result }
     {
-        match Rc::new(alloc, form) {
-            Ok(form) => Ok(Term {
-                size,
-                depth,
-                loose,
-                constants,
-                form,
-            }),
+        let Numbers {
+            size,
+            depth,
+            loose,
+            constants,
+            digest,
+        } = numbers;
+        if size > MAX_SIZE || depth > MAX_DEPTH {
+            return Err(TermFault::TooLarge { size, depth });
+        }
+        let root = Root {
+            size,
+            depth,
+            loose,
+            constants,
+            digest,
+            form,
+        };
+        match Rc::new(alloc, root) {
+            Ok(root) => Ok(Term { root }),
             Err(_) => Err(TermFault::Memory),
         }
     }
@@ -173,4 +195,5 @@ pub enum Node<'a> {
     Pair(Binder, &'a Term, &'a Term, &'a Term, &'a Term),
     Fst(&'a Term),
     Snd(&'a Term),
+    Local(Binder, &'a Term, &'a Term),
 }

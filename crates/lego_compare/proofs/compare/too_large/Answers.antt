@@ -10,7 +10,7 @@ pub returns : goal.returns
 returns c =
     elim c.match-normal.branch [
       | in-Ok w ↦
-          rw w.result-is (of_end (bodies_in c.args.bodies.now) c.args.t.now c.args.limit c.args.size c.args.depth _ (subst (λ r. Reduces (normal_step (bodies_in c.args.bodies.now)) c.args.t.now c.args.limit r) w.in-Ok.is c.normal.ensures) c.requires.path)
+          rw w.result-is (of_end (bodies_in c.args.setting.now.bodies.now) c.args.t.now c.args.limit c.args.size c.args.depth _ (subst (λ r. Reduces (normal_step (bodies_in c.args.setting.now.bodies.now)) c.args.t.now c.args.limit r) w.in-Ok.is c.normal.ensures) c.requires.path)
       | in-Err w ↦
-          rw (w.result-is, w.reduction_fault.ensures) (of_reduction (bodies_in c.args.bodies.now) c.args.t.now c.args.limit _ (subst (λ r. Reduces (normal_step (bodies_in c.args.bodies.now)) c.args.t.now c.args.limit r) w.in-Err.is c.normal.ensures))
+          rw (w.result-is, w.reduction_fault.ensures) (of_reduction (bodies_in c.args.setting.now.bodies.now) c.args.t.now c.args.limit c.args.size c.args.depth _ c.requires.path (subst (λ r. Reduces (normal_step (bodies_in c.args.setting.now.bodies.now)) c.args.t.now c.args.limit r) w.in-Err.is c.normal.ensures))
     ]

@@ -3,8 +3,8 @@ use Rattle.std.proofs.lemmas.List.{reverse-append}
 use Rattle.lego_level.specs.declared.direction.Direction.TheVariants.{Up}
 use Rattle.lego_level.specs.declared.draft.Reached.{Reached}
 use Rattle.lego_level.specs.Graphs.{IsClosedWalk}
-use Rattle.lego_level.specs.Potentials.{value_at}
-use Rattle.lego_level.specs.Searches.{reached_at}
+use Rattle.lego_level.specs.private.Potentials.{value_at}
+use Rattle.lego_level.specs.private.Searches.{reached_at}
 use Rattle.lego_level.proofs.CycleLemmas.{WalkedBack, rounds, back_starts, back_more, back_ends, bases_apart, bases_same}
 use Rattle.lego_level.proofs.cycle.walk_back.Goals as goal
 

@@ -2,8 +2,8 @@ use Rattle.std.proofs.Common.{◌≡◌, ◌<◌, ◌∷◌, ◌++◌, [], Conta
 use Rattle.lego_level.specs.declared.direction.Direction.TheVariants.{Down}
 use Rattle.lego_level.specs.declared.draft.Reached.{Reached}
 use Rattle.lego_level.specs.Graphs.{IsClosedWalk}
-use Rattle.lego_level.specs.Potentials.{value_at}
-use Rattle.lego_level.specs.Searches.{reached_at}
+use Rattle.lego_level.specs.private.Potentials.{value_at}
+use Rattle.lego_level.specs.private.Searches.{reached_at}
 use Rattle.lego_level.proofs.CycleLemmas.{WalkedOn, rounds, on_starts, on_more, on_ends, bases_apart, bases_same}
 use Rattle.lego_level.proofs.cycle.walk_on.Goals as goal
 

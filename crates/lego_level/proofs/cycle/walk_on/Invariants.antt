@@ -1,6 +1,6 @@
 use Rattle.std.proofs.Common.{◌∷◌}
-use Rattle.lego_level.specs.Potentials.{value_at}
-use Rattle.lego_level.specs.Searches.{reached_at}
+use Rattle.lego_level.specs.private.Potentials.{value_at}
+use Rattle.lego_level.specs.private.Searches.{reached_at}
 use Rattle.lego_level.proofs.CycleLemmas.{WalkedOn}
 use Rattle.lego_level.proofs.cycle.walk_on.Given as goal
 

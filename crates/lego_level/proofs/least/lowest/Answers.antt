@@ -1,8 +1,8 @@
 use Rattle.std.proofs.Common.{◌≡◌, ◌+◌, ◌-◌, ◌≤◌, None, refl, inr, subst, arith}
 use Rattle.std.proofs.lemmas.Grind.{common_steps}
 use Rattle.lego_level.specs.Graphs.{implied}
-use Rattle.lego_level.specs.Potentials.{value_at}
-use Rattle.lego_level.specs.Steps.{IsStep}
+use Rattle.lego_level.specs.private.Potentials.{value_at}
+use Rattle.lego_level.specs.private.Steps.{IsStep}
 use Rattle.lego_level.proofs.LeastLemmas.{upward, lowest}
 use Rattle.lego_level.proofs.PotentialLemmas.{value_zero}
 use Rattle.lego_level.proofs.least.lowest.Goals as goal

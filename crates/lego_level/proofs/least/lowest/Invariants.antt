@@ -1,6 +1,6 @@
-use Rattle.lego_level.specs.Measures.{measure}
-use Rattle.lego_level.specs.Potentials.{value_at}
-use Rattle.lego_level.specs.Searches.{Searches}
+use Rattle.lego_level.specs.private.Measures.{measure}
+use Rattle.lego_level.specs.private.Potentials.{value_at}
+use Rattle.lego_level.specs.private.Searches.{Searches}
 use Rattle.lego_level.proofs.least.lowest.Given as goal
 
 abbrev pub invariant-steps : goal.invariant-steps

@@ -1,8 +1,8 @@
 use Rattle.std.proofs.Common.{sym, subst}
 use Rattle.lego_level.specs.declared.direction.Direction.TheVariants.{Down}
-use Rattle.lego_level.specs.Outcomes.{IsOutcome}
-use Rattle.lego_level.specs.Potentials.{value_at}
-use Rattle.lego_level.specs.Steps.{IsStep}
+use Rattle.lego_level.specs.private.Outcomes.{IsOutcome}
+use Rattle.lego_level.specs.private.Potentials.{value_at}
+use Rattle.lego_level.specs.private.Steps.{IsStep}
 use Rattle.lego_level.proofs.MendLemmas.{ends, closes_down}
 use Rattle.lego_level.proofs.mend.go_down.Goals as goal
 

@@ -1,9 +1,9 @@
 use Rattle.std.proofs.Common.{sym, subst}
 use Rattle.lego_level.specs.declared.direction.Direction.TheVariants.{Up, Down}
 use Rattle.lego_level.specs.declared.mend.Outcome.TheVariants.{Mended}
-use Rattle.lego_level.specs.Outcomes.{IsOutcome}
-use Rattle.lego_level.specs.Potentials.{value_at}
-use Rattle.lego_level.specs.Steps.{IsStep}
+use Rattle.lego_level.specs.private.Outcomes.{IsOutcome}
+use Rattle.lego_level.specs.private.Potentials.{value_at}
+use Rattle.lego_level.specs.private.Steps.{IsStep}
 use Rattle.lego_level.proofs.CycleLemmas.{bases_equal}
 use Rattle.lego_level.proofs.MendLemmas.{ends, closes, closes_down}
 use Rattle.lego_level.proofs.mend.take_turns.Goals as goal

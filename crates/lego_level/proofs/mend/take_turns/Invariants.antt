@@ -1,7 +1,7 @@
 use Rattle.std.proofs.Common.{◌+◌}
-use Rattle.lego_level.specs.Measures.{measure}
-use Rattle.lego_level.specs.Potentials.{value_at}
-use Rattle.lego_level.specs.Searches.{Searches}
+use Rattle.lego_level.specs.private.Measures.{measure}
+use Rattle.lego_level.specs.private.Potentials.{value_at}
+use Rattle.lego_level.specs.private.Searches.{Searches}
 use Rattle.lego_level.proofs.mend.take_turns.Given as goal
 
 abbrev pub invariant-turns : goal.invariant-turns

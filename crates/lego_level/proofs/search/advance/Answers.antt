@@ -2,8 +2,8 @@ use Rattle.std.proofs.Common.{refl, sym, ap, ◌∙◌, subst, arith}
 use Rattle.std.specs.Option.{MatchOption}
 use Rattle.lego_level.specs.declared.draft.Reached.{Reached}
 use Rattle.lego_level.specs.declared.search.Search.{Search}
-use Rattle.lego_level.specs.Potentials.{value_at}
-use Rattle.lego_level.specs.Searches.{reached_or, Searches, Stops}
+use Rattle.lego_level.specs.private.Potentials.{value_at}
+use Rattle.lego_level.specs.private.Searches.{reached_or, Searches, Stops}
 use Rattle.lego_level.proofs.SearchLemmas.{marks}
 use Rattle.lego_level.proofs.StepLemmas.{skips}
 use Rattle.lego_level.proofs.CountLemmas.{reached_below, falls_skip, falls_visit}

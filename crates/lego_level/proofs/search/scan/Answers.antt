@@ -3,8 +3,8 @@ use Rattle.std.specs.Option.{MatchOption}
 use Rattle.std.proofs.lemmas.Result.{on_ok_weaker}
 use Rattle.lego_level.specs.declared.search.Search.{Search}
 use Rattle.lego_level.specs.Graphs.{implied}
-use Rattle.lego_level.specs.Potentials.{value_at}
-use Rattle.lego_level.specs.Searches.{IsImpliedAt, Scans, Stops, Visited}
+use Rattle.lego_level.specs.private.Potentials.{value_at}
+use Rattle.lego_level.specs.private.Searches.{IsImpliedAt, Scans, Stops, Visited}
 use Rattle.lego_level.proofs.IncidenceLemmas.{length_incident}
 use Rattle.lego_level.proofs.StepLemmas.{scan_visit, searches_of, lower_item, lower_rest, none_upper, none_lower, same_done}
 use Rattle.lego_level.proofs.search.scan.Goals as goal

@@ -1,7 +1,7 @@
 use Rattle.std.proofs.Common.{◌+◌, None, false, refl, subst, arith}
 use Rattle.lego_level.specs.Graphs.{implied}
-use Rattle.lego_level.specs.Potentials.{value_at}
-use Rattle.lego_level.specs.Searches.{IsImpliedAt, Visited}
+use Rattle.lego_level.specs.private.Potentials.{value_at}
+use Rattle.lego_level.specs.private.Searches.{IsImpliedAt, Visited}
 use Rattle.lego_level.proofs.SearchLemmas.{retodo}
 use Rattle.lego_level.proofs.StepLemmas.{scan_visit, implied_from, implied_first, implied_rest, implied_last, implied_item, same_done}
 use Rattle.lego_level.proofs.search.scan_implied.Goals as goal

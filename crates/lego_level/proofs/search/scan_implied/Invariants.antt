@@ -1,6 +1,6 @@
 use Rattle.std.proofs.Common.{◌+◌, ◌≤◌, None, length}
-use Rattle.lego_level.specs.Potentials.{value_at}
-use Rattle.lego_level.specs.Searches.{Scans, SameDone}
+use Rattle.lego_level.specs.private.Potentials.{value_at}
+use Rattle.lego_level.specs.private.Searches.{Scans, SameDone}
 use Rattle.lego_level.proofs.StepLemmas.{implied_from}
 use Rattle.lego_level.proofs.search.scan_implied.Given as goal
 

@@ -1,8 +1,8 @@
 use Rattle.std.proofs.Common.{◌≡◌, ◌+◌, [], get_or, drop, length, true, false, refl, ap, subst, arith}
 use Rattle.std.proofs.lemmas.List.{drop_all}
-use Rattle.lego_level.specs.Incidence.{incident}
-use Rattle.lego_level.specs.Potentials.{value_at}
-use Rattle.lego_level.specs.Searches.{blank, IsAt, IsImpliedAt, Visited}
+use Rattle.lego_level.specs.private.Incidence.{incident}
+use Rattle.lego_level.specs.private.Potentials.{value_at}
+use Rattle.lego_level.specs.private.Searches.{blank, IsAt, IsImpliedAt, Visited}
 use Rattle.lego_level.proofs.SearchLemmas.{edge_known, retodo}
 use Rattle.lego_level.proofs.StepLemmas.{scan_visit, close_visit, listed_at, listed_first, listed_rest, listed_last, listed_item, item_rest, same_done}
 use Rattle.lego_level.proofs.search.scan_listed.Goals as goal

@@ -1,7 +1,7 @@
 use Rattle.std.proofs.Common.{subst}
 use Rattle.lego_level.specs.declared.search.Search.{Search}
-use Rattle.lego_level.specs.Potentials.{value_at}
-use Rattle.lego_level.specs.Searches.{IsPut}
+use Rattle.lego_level.specs.private.Potentials.{value_at}
+use Rattle.lego_level.specs.private.Searches.{IsPut}
 use Rattle.lego_level.proofs.SearchLemmas.{begins}
 use Rattle.lego_level.proofs.search.start.Goals as goal
 

@@ -3,8 +3,8 @@ use Rattle.std.proofs.lemmas.List.{drop_all}
 use Rattle.std.proofs.Math.Path.{fun_ext}
 use Rattle.lego_level.specs.declared.draft.Reached.{Reached}
 use Rattle.lego_level.specs.declared.potential.Potential.{Potential}
-use Rattle.lego_level.specs.Potentials.{value_at, HasRoom, IsBelowTop}
-use Rattle.lego_level.specs.Searches.{reached_at}
+use Rattle.lego_level.specs.private.Potentials.{value_at, HasRoom, IsBelowTop}
+use Rattle.lego_level.specs.private.Searches.{reached_at}
 use Rattle.lego_level.proofs.SolverLemmas.{IsMoving, moving_first, moving_moved, moving_stays, moving_last, item_parts}
 use Rattle.lego_level.proofs.solver.keep.Goals as goal
 use Rattle.lego_level.proofs.solver.keep.Goals.{then-reached-gt0, else-reached-gt0}

@@ -1,6 +1,6 @@
 use Rattle.std.proofs.Common.{ℕ, Option, drop}
-use Rattle.lego_level.specs.Potentials.{value_at, HasRoom, IsBelowTop}
-use Rattle.lego_level.specs.Searches.{reached_at}
+use Rattle.lego_level.specs.private.Potentials.{value_at, HasRoom, IsBelowTop}
+use Rattle.lego_level.specs.private.Searches.{reached_at}
 use Rattle.lego_level.proofs.SolverLemmas.{IsMoving}
 use Rattle.lego_level.proofs.solver.keep.Given as goal
 

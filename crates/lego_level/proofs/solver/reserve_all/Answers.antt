@@ -1,7 +1,7 @@
 use Rattle.std.proofs.Common.{◌≡◌, None, get_or, take, length, Contains, ap, ◌∙◌, sym, subst, ⊎_elim, arith}
 use Rattle.std.proofs.lemmas.List.{take_all}
 use Rattle.std.proofs.lemmas.List.Elements.{Contains-push_cases}
-use Rattle.lego_level.specs.Potentials.{HasRoom}
+use Rattle.lego_level.specs.private.Potentials.{HasRoom}
 use Rattle.lego_level.proofs.SolverLemmas.{item_parts}
 use Rattle.lego_level.proofs.solver.reserve_all.Goals as goal
 

@@ -1,5 +1,5 @@
 use Rattle.std.proofs.Common.{◌≡◌, ℕ, Option, take, Contains}
-use Rattle.lego_level.specs.Potentials.{value_at, HasRoom, IsBelowTop}
+use Rattle.lego_level.specs.private.Potentials.{value_at, HasRoom, IsBelowTop}
 use Rattle.lego_level.proofs.solver.reserve_all.Given as goal
 
 abbrev pub invariant-loop-node : goal.invariant-loop-node

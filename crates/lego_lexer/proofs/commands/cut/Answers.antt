@@ -1,20 +1,26 @@
-use Rattle.std.proofs.Common.{sym, subst, arith}
+use Rattle.std.proofs.Common.{[], ◌∙◌, drop, length, subst}
+use Rattle.std.proofs.lemmas.List.{take-append-drop}
 use Rattle.std.specs.Prelude.{slice_range}
-use Rattle.std.proofs.lemmas.List.Folds.{drop_split}
-use Rattle.lego_lexer.specs.Commands.{IsCut}
-use Rattle.lego_lexer.proofs.SliceLemmas.{slice_length}
-use Rattle.lego_lexer.proofs.CommandLemmas.{open_cut_here}
+use Rattle.lego_lexer.specs.Commands.{First, Begins, IsCut}
+use Rattle.lego_lexer.specs.Cutter.{IsFed}
+use Rattle.lego_lexer.proofs.SliceLemmas.{slice_all}
+use Rattle.lego_lexer.proofs.Fronts.{command_goes_on}
 use Rattle.lego_lexer.proofs.commands.cut.Goals as goal
 
-pub returns-in-At : goal.returns-in-At
-returns-in-At c =
-    let s = c.in-At.ensures in
-    let there = slice_length c.args.bytes.now c.args.from c.in-At.start s.0 (omega (arith, s.1)) in
-    subst (λ xs. IsCut c.args.from xs c.command_at.result) (sym (drop_split c.args.bytes.now c.args.from c.in-At.start s.0))
-    (c.command_at.ensures c.args.from (slice_range c.args.bytes.now c.args.from c.in-At.start) s.2 there)
+pub returns-in-Ended : goal.returns-in-Ended
+returns-in-Ended c =
+    let piece = slice_range c.args.bytes.now c.args.from (length c.args.bytes.now) in
+    let e = subst (IsFed c.scan.new.self c.args.from [] piece) c.in-Ended.is (c.scan.ensures c.args.from [] c.at-cutter.ensures.stands) in
+    let rest = drop c.in-Ended.used piece in
+    let first = First.Command e.ends.gap e.ends.body rest in
+    record {
+      first = first;
+      begins = subst (λ xs. Begins xs first) (take-append-drop c.in-Ended.used piece ∙ slice_all c.args.bytes.now c.args.from) (command_goes_on e.ends.begins rest);
+      is = e.ends.is;
+    }
 
-pub returns-in-Open : goal.returns-in-Open
-returns-in-Open c = let s = c.in-Open.ensures in open_cut_here c.args.bytes.now c.args.from c.in-Open.start s.0 s.1 s.2 s.3
-
-pub returns-in-End : goal.returns-in-End
-returns-in-End c = IsCut.blank c.in-End.ensures
+pub returns-in-More : goal.returns-in-More
+returns-in-More c =
+    let piece = slice_range c.args.bytes.now c.args.from (length c.args.bytes.now) in
+    let s = subst (IsFed c.scan.new.self c.args.from [] piece) c.in-More.is (c.scan.ensures c.args.from [] c.at-cutter.ensures.stands) in
+    subst (λ xs. IsCut c.args.from xs c.end.result) (slice_all c.args.bytes.now c.args.from) (c.end.ensures.cut c.args.from piece s)

@@ -4,8 +4,8 @@ use Rattle.lego_lexer.specs.Tokens.{number_value}
 use Rattle.lego_lexer.proofs.ScanLemmas.{number_some, number_there, big_level_there}
 use Rattle.lego_lexer.proofs.scan.scan_number.Goals as goal
 
-pub returns-then-value-gt-MAX_NUMBER : goal.returns-then-value-gt-MAX_NUMBER
-returns-then-value-gt-MAX_NUMBER c =
+pub returns-then-value-gt-MAX_NUMERAL : goal.returns-then-value-gt-MAX_NUMERAL
+returns-then-value-gt-MAX_NUMERAL c =
     let bytes = c.args.bytes.now in
     let to = c.number_end-to.result in
     let big : 1000000 < number_value (slice_range bytes c.args.at to) = omega arith in

@@ -1,7 +1,7 @@
 use Rattle.std.proofs.Common.{rules, ◌≡◌, [], ◌∷◌, ◌++◌, true, arith}
 use Rattle.std.specs.Prelude.{is_ok}
 use Rattle.lego_lexer.specs.Tokens.{Reads}
-use Rattle.lego_lexer.specs.Scanned.{IsFirst}
+use Rattle.lego_lexer.specs.private.Scanned.{IsFirst}
 use Rattle.lego_lexer.proofs.LexLemmas.{one_more, one_more_within, none_within}
 use Rattle.lego_lexer.proofs.tokens.lex.Goals as goal
 

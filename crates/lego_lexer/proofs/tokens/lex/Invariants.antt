@@ -1,6 +1,6 @@
 use Rattle.std.proofs.Common.{◌-◌, ◌≤◌, length, drop, map}
 use Rattle.lego_lexer.specs.Tokens.{Reads, AllWithinLimits, placed, start}
-use Rattle.lego_lexer.specs.Scanned.{HasRoom, point}
+use Rattle.lego_lexer.specs.private.Scanned.{HasRoom, point}
 use Rattle.lego_lexer.proofs.tokens.lex.Given as goal
 
 abbrev pub decreases-loop-tokens : goal.decreases-loop-tokens

@@ -23,7 +23,7 @@ returns-in_err-within_depth-in-Stepped-clause-end c =
     let h = subst (λ (r : Turn). Turns u (head_step (bodies_in b) u) (nat_lt c.machine.steps c.args.limit) (plug fs) (Ok r)) c.in-Stepped.is c.in_ok-made.ensures in
     let r = reached_more b c.args.t.now u (plug fs made) c.args.limit c.machine.steps c.requires.closed c.machine.invariant.0 h.0 h.1 in
     let p = err_from_is_err_and c.from_residual-in_err-within_depth-in-Stepped.result c.from_residual-in_err-within_depth-in-Stepped.ensures.1 in
-    rw (p.1, p.2) (reached_deep b c.args.t.now (plug fs made) c.args.limit (c.machine.steps + 1) c.in_err-within_depth-in-Stepped.field-0.0 r (subst (λ l. StaysWithin (plug l made) (Err c.in_err-within_depth-in-Stepped.field-0.0)) c.as_slice.ensures c.in_err-within_depth-in-Stepped.ensures))
+    rw (p.1, p.2) (reached_deep b c.args.t.now (plug fs made) c.args.limit (c.machine.steps + 1) c.in_err-within_depth-in-Stepped.field-0.0 r (subst (λ l. StaysWithin (plug l made) (Err c.in_err-within_depth-in-Stepped.field-0.0)) c.as_slice.ensures c.in_err-within_depth-in-Stepped.ensures.refused))
 
 pub machine-preserved : goal.machine-preserved
 machine-preserved c =

@@ -4,7 +4,8 @@ use Rattle.lego_grammar.specs.Surface.{written}
 use Rattle.lego_grammar.specs.Written.{Written}
 use Rattle.lego_grammar.specs.declared.surface.Part.{Part}
 use Rattle.lego_grammar.specs.declared.surface.Surface.{Surface}
-use Rattle.lego_session.specs.Reading.{is_arrow, is_simple, ReadsType, IsNotRead, IsReading}
+use Rattle.lego_session.specs.Reading.{is_arrow, is_simple, ReadsType}
+use Rattle.lego_session.specs.private.Reading.{IsNotRead, IsReading}
 use Rattle.lego_session.proofs.ReadingLemmas.{arrow_is, domain_not_read, body_not_read, arrow_reads, prop_reads, written-Prop, simple-Apply, simple-Project, same-Apply, same-Project}
 use Rattle.lego_session.proofs.reading.+core_of.Goals as goal
 

@@ -5,7 +5,7 @@ use Rattle.lego_session.proofs.ReadingLemmas.{position_within, name_reads, is_th
 use Rattle.lego_session.proofs.reading.constant_of.Goals as goal
 
 pub returns-in_default : goal.returns-in_default
-returns-in_default c = reading.FirstUnknown.name (sym c.position.ensures ∙ c.in_default.is)
+returns-in_default c = (reading.Visits.here, sym c.position.ensures ∙ c.in_default.is)
 
 pub unreachable-requires : goal.unreachable-requires
 unreachable-requires c =

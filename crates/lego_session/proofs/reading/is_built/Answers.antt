@@ -1,6 +1,6 @@
 use Rattle.std.proofs.Common.{List, sym, ap, ◌∙◌}
 use Rattle.std.specs.List.{list_all}
-use Rattle.lego_grammar.specs.Surface.{deed_of_act, says_of}
+use Rattle.lego_grammar.specs.Surface.{written_act, written_kind}
 use Rattle.lego_grammar.specs.declared.command.Binding.{Binding}
 use Rattle.lego_session.specs.Reading.{is_built, is_simple_assumption}
 use Rattle.lego_session.proofs.ReadingLemmas.{built-map}
@@ -8,5 +8,5 @@ use Rattle.lego_session.proofs.reading.is_built.Goals as goal
 
 pub returns-in-Bind : goal.returns-in-Bind
 returns-in-Bind c =
-    c.are_built.ensures ∙ ap (λ (bs : List Binding). list_all (λ b. is_simple_assumption (says_of b.kind)) bs) c.items.ensures
-    ∙ sym (ap (λ a. is_built (deed_of_act a)) c.in-Bind.is ∙ built-map c.in-Bind.bindings)
+    c.are_built.ensures ∙ ap (λ (bs : List Binding). list_all (λ b. is_simple_assumption (written_kind b.kind)) bs) c.items.ensures
+    ∙ sym (ap (λ a. is_built (written_act a)) c.in-Bind.is ∙ built-map c.in-Bind.bindings)

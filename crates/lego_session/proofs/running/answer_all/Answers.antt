@@ -1,7 +1,8 @@
-use Rattle.std.proofs.Common.{length, refl, ap, subst, arith}
+use Rattle.std.proofs.Common.{[], refl, subst, arith}
 use Rattle.std.specs.Io.KnownBytes.{Appends}
 use Rattle.lego_base.specs.Bytes.{AppendsFront}
 use Rattle.lego_session.proofs.CutLemmas.{near_end}
+use Rattle.lego_session.proofs.KnownLemmas.{empty_known}
 use Rattle.lego_session.proofs.RunLemmas.{reached_first, front_so_far, reached_more, front_of_more}
 use Rattle.lego_session.proofs.running.answer_all.Goals as goal
 
@@ -10,7 +11,7 @@ commands-init g c = record {
   reached = rw (c.new-names.ensures, c.new-session.ensures) (reached_first c.args.text.now (g.K.Sink.taken c.args.out.now));
   within = omega arith;
   near = record { line = omega arith; column = omega arith };
-  known = λ k d h. absurd (omega (arith, ap length c.new-session.ensures, h));
+  known = rw (c.new-names.ensures, c.new-session.ensures) (empty_known []);
   later = omega arith;
 }
 

@@ -1,6 +1,6 @@
 use Rattle.std.proofs.Common.{◌-◌, ◌≤◌, length}
-use Rattle.lego_session.specs.Names.{AreKnown}
-use Rattle.lego_session.specs.Progress.{IsNear, Reached}
+use Rattle.lego_session.specs.Names.{IsKnownSession}
+use Rattle.lego_session.specs.private.Progress.{IsNear, Reached}
 use Rattle.lego_session.proofs.running.answer_all.Given as goal
 
 abbrev pub decreases-commands : goal.decreases-commands
@@ -11,6 +11,6 @@ invariant-commands g l = record {
   reached : Reached l.text l.at l.place l.names l.session l.refused (g.K.Sink.taken l.fn.out) (g.K.Sink.taken l.out);
   within : l.at ≤ length l.text;
   near : IsNear l.place l.at;
-  known : AreKnown l.names l.session;
+  known : IsKnownSession l.names l.session;
   later : g.K.Sink.faults l.fn.out ≤ g.K.Sink.faults l.out;
 }

@@ -13,7 +13,7 @@ returns-in-Whole-clause-output g c =
     let read = c.read_all-end.new.text.items in
     let front : take c.min.result c.deref.result.now ≡ take 16777216 read = up_to c.min.result 16777216 c.deref.result.now read c.deref.ensures.value (cc) in
     finished _ read _ _ (g.K.Sink.taken c.args.out.now) (g.K.Sink.taken c.answer_all.new.out) _ _ _ _ c.in-Whole.ensures.consumed front c.in-Ok.ensures.ok
-    c.in-Whole.ensures.end.1 (g.K.Sink.taken c.finish.new.out) c.in-Whole.ensures.end.0 c.in-Ok.ensures.known _ _ c.finish.result c.finish.ensures
+    c.in-Whole.ensures.end.1 (g.K.Sink.taken c.finish.new.out) c.in-Whole.ensures.end.0 _ _ c.finish.result c.finish.ensures
 
 pub returns-in-Fault-clause-output : goal.returns-in-Fault-clause-output
 returns-in-Fault-clause-output g c =

@@ -1,5 +1,5 @@
 use Rattle.std.proofs.Common.{rules, arith, ◌<◌, length, sym, ◌∙◌}
-use Rattle.lego_term.specs.Trees.{Pi, Lam, App, Sigma, Pair, Fst, Snd}
+use Rattle.lego_term.specs.Trees.{Pi, Lam, App, Sigma, Pair, Fst, Snd, Let}
 use Rattle.lego_term.proofs.BoundLemmas.{close-low}
 use Rattle.lego_term.proofs.ConstantLemmas.{close_err, listed_variable-less}
 use Rattle.lego_term.proofs.constants.+close_within.Goals as goal
@@ -45,3 +45,7 @@ returns-in_ok-of-in-Snd-clause-err t c =
 pub returns-then-constants-least-clause-ok : goal.returns-then-constants-least-clause-ok
 returns-then-constants-least-clause-ok t c =
     c.in_ok-share.ensures.same ∙ sym (close-low c.args.numbers.now c.args.least c.args.under c.args.t.now (omega arith) (omega arith) c.requires.none)
+
+pub returns-in_ok-body-in-Local-clause-err : goal.returns-in_ok-body-in-Local-clause-err
+returns-in_ok-body-in-Local-clause-err t c =
+    close_err c.args.numbers.now c.args.under c.args.t.now (Let c.in-Local.binder c.in_ok-value-in-Local.value c.in_ok-body-in-Local.body) c.local.result (search rules) c.view.ensures.limits c.local.ensures

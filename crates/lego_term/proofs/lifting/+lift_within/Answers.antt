@@ -1,5 +1,5 @@
 use Rattle.std.proofs.Common.{rules, ◌∙◌, sym, ◌≤◌, arith}
-use Rattle.lego_term.specs.Trees.{Pi, Lam, App, Sigma, Pair, Fst, Snd, loose}
+use Rattle.lego_term.specs.Trees.{Pi, Lam, App, Sigma, Pair, Fst, Snd, Let, loose}
 use Rattle.lego_term.proofs.LiftLemmas.{lift-low, lift_err}
 use Rattle.lego_term.proofs.lifting.+lift_within.Goals as goal
 
@@ -35,3 +35,7 @@ returns-in_ok-of-in-Fst-clause-err t c =
 pub returns-in_ok-of-in-Snd-clause-err : goal.returns-in_ok-of-in-Snd-clause-err
 returns-in_ok-of-in-Snd-clause-err t c =
     lift_err c.args.from c.args.by c.args.t.now (Snd c.in_ok-of-in-Snd.of) c.snd.result (search rules) c.view.ensures.limits c.snd.ensures
+
+pub returns-in_ok-body-in-Local-clause-err : goal.returns-in_ok-body-in-Local-clause-err
+returns-in_ok-body-in-Local-clause-err t c =
+    lift_err c.args.from c.args.by c.args.t.now (Let c.in-Local.binder c.in_ok-value-in-Local.value c.in_ok-body-in-Local.body) c.local.result (search rules) c.view.ensures.limits c.local.ensures

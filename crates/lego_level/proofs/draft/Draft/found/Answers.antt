@@ -1,5 +1,5 @@
 use Rattle.std.proofs.Common.{rules}
-use Rattle.lego_level.specs.Searches.{found_at}
+use Rattle.lego_level.specs.private.Searches.{found_at}
 use Rattle.lego_level.proofs.draft.Draft.found.Goals as goal
 
 pub returns-in-None : goal.returns-in-None

@@ -1,5 +1,5 @@
 use Rattle.std.proofs.Common.{◌≡◌, ◌≤◌, ◌+◌, ◌-◌, length}
-use Rattle.lego_level.specs.Potentials.{value_at}
+use Rattle.lego_level.specs.private.Potentials.{value_at}
 use Rattle.lego_level.proofs.potential.Potential.reserve.Given as goal
 
 abbrev pub invariant-loop-variable : goal.invariant-loop-variable

@@ -1,7 +1,7 @@
 use Rattle.std.proofs.Common.{sym, subst}
 use Rattle.std.specs.Result.{IfOk}
 use Rattle.lego_level.specs.Graphs.{IsLeast, HasVariablesBelow}
-use Rattle.lego_level.specs.Searches.{reached_at}
+use Rattle.lego_level.specs.private.Searches.{reached_at}
 use Rattle.lego_level.proofs.MeaningLemmas.{least_result}
 use Rattle.lego_level.proofs.solver.Solver.least.Goals as goal
 

@@ -1,5 +1,5 @@
 use Rattle.std.proofs.Common.{◌≡◌, ◌-◌, length, take, subst}
-use Rattle.lego_level.specs.Potentials.{value_at}
+use Rattle.lego_level.specs.private.Potentials.{value_at}
 use Rattle.lego_level.proofs.SolverLemmas.{popped, feasible_front}
 use Rattle.lego_level.proofs.solver.Solver.pop.Goals as goal
 

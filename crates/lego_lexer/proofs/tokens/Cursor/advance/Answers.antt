@@ -1,13 +1,14 @@
-use Rattle.std.proofs.Common.{arith}
+use Rattle.std.proofs.Common.{ap, arith}
 use Rattle.std.specs.Prelude.{slice_range}
-use Rattle.std.proofs.lemmas.List.{take_more}
-use Rattle.lego_base.proofs.PlaceLemmas.{behind-append, past-newline, past-other}
+use Rattle.lego_base.proofs.PlaceLemmas.{behind_line, behind_column}
+use Rattle.lego_base.specs.declared.place.Place.{Place}
+use Rattle.lego_lexer.proofs.SliceLemmas.{slice_length}
 use Rattle.lego_lexer.proofs.tokens.Cursor.advance.Goals as goal
-use Rattle.lego_lexer.proofs.tokens.Cursor.advance.Goals.{then-byte-eq10, else-byte-eq10}
 
-pub loop-byte-preserved : goal.loop-byte-preserved
-loop-byte-preserved c = record {
-  there = rw (take_more (slice_range c.args.bytes.now c.args.self.index c.args.to) c.loop-byte.byte-index 0 c.loop-byte-test.true, behind-append, c.loop-byte.invariant.there) (elim c.if-byte-eq10.branch [ then-byte-eq10 w ↦ rw (w.line-is, w.column-is) (past-newline _ _ w.if-byte-eq10.true) | else-byte-eq10 w ↦ rw (w.line-is, w.column-is) (past-other _ _ w.if-byte-eq10.false) ]);
-  lines = elim c.if-byte-eq10.branch [ then-byte-eq10 w ↦ omega arith | else-byte-eq10 w ↦ omega arith ];
-  columns = elim c.if-byte-eq10.branch [ then-byte-eq10 w ↦ omega arith | else-byte-eq10 w ↦ omega arith ];
-}
+pub returns-clause-room : goal.returns-clause-room
+returns-clause-room c =
+    let passed = slice_range c.args.bytes.now c.args.self.index c.args.to in
+    let count = slice_length c.args.bytes.now c.args.self.index c.args.to c.requires.after c.requires.within in (
+      omega (arith, ap (λ (p : Place). p.line) c.behind-place.ensures, behind_line c.args.self.place passed, count, c.requires.room.0),
+      omega (arith, ap (λ (p : Place). p.column) c.behind-place.ensures, behind_column c.args.self.place passed, count, c.requires.room.1),
+    )

@@ -1,64 +1,125 @@
-use Rattle.std.proofs.Common.{List, length, take, map, sym, ap, ◌∙◌, subst, arith}
+use Rattle.std.proofs.Common.{◌≡◌, List, map, IfOk, IfErr, OnErr, false, sym, ap, ◌∙◌, subst}
 use Rattle.std.specs.List.{list_all}
-use Rattle.lego_grammar.specs.Surface.{bound_of, says_of, order_of, deed_of_act}
-use Rattle.lego_grammar.specs.Written.{Bindings}
+use Rattle.lego_grammar.specs.Surface.{written_binding, written_kind, written_command, written_act}
+use Rattle.lego_grammar.specs.Written.{Bindings, Undo, Forget}
 use Rattle.lego_grammar.specs.declared.command.Binding.{Binding}
-use Rattle.lego_kernel.specs.declared.entry.Entry.{Entry as Item}
-use Rattle.lego_session.specs.Names.{AreKnown}
 use Rattle.lego_session.specs.Reading.{is_built, is_simple_assumption}
-use Rattle.lego_session.specs.Binding.{BindAllFails}
-use Rattle.lego_session.specs.Steps.{BindsAll}
+use Rattle.lego_session.specs.Sessions.{Session}
+use Rattle.lego_session.specs.Step.{Step, IsFeasible}
+use Rattle.lego_session.specs.declared.refusal.Cause.TheVariants.{Memory}
+use Rattle.lego_session.specs.private.Parts.{session_of}
 use Rattle.lego_session.proofs.ReadingLemmas.{built-map}
-use Rattle.lego_session.proofs.StepLemmas.{front-binds, front-length, accepted-steps, dropped-again, refused-steps}
+use Rattle.lego_session.proofs.DispatchLemmas.{accepts, refuses, completes, stays_printable, same_parts, shows}
 use Rattle.lego_session.proofs.KnownLemmas.{outcome_known}
-use Rattle.lego_session.proofs.BindingLemmas.{front-self}
 use Rattle.lego_session.proofs.session.Session.step.Goals as goal
 
-pub bind_all-requires-clause-built : goal.bind_all-requires-clause-built
-bind_all-requires-clause-built c =
-    ap (λ (bs : List Binding). list_all (λ b. is_simple_assumption (says_of b.kind)) bs) c.items.ensures
-    ∙ (sym (built-map c.in-Bind.bindings) ∙ (ap (λ a. is_built (deed_of_act a)) (sym c.in-Bind.is) ∙ c.requires.built))
+pub bind-requires-clause-built : goal.bind-requires-clause-built
+bind-requires-clause-built c =
+    ap (λ (bs : List Binding). list_all (λ b. is_simple_assumption (written_kind b.kind)) bs) c.items.ensures
+    ∙ (sym (built-map c.in-Bind.bindings) ∙ (ap (λ a. is_built (written_act a)) (sym c.in-Bind.is) ∙ c.requires.built))
 
-pub accepted-requires : goal.accepted-requires
-accepted-requires c =
-    let made = c.in-Ok.ensures.ok in
-    let l = front-length c.self.inside.context c.bind_all.new.context (front-binds c.self.inside.context (front-self c.self.inside.context) made) in
-    omega (arith, l, c.len-before.ensures.exact)
+pub invariant_of-self : goal.invariant_of-self
+invariant_of-self c =
+    let p = c.self.inside.parts in
+    let is = ap written_act c.in-Bind.is ∙ ap (λ (bs : List Binding). Bindings (map written_binding bs)) (sym c.items.ensures) in
+    let o = written_command c.args.command.now in
+    let ok = accepts c.args.names.now c.args.limit (session_of p) (session_of c.bind.new.self) o c.bind.result (Bindings (map written_binding c.items.result.now)) is c.bind.ensures.ok in (
+      c.bind.ensures.still_goes,
+      stays_printable c.args.names.now c.args.limit (session_of p) (session_of c.bind.new.self) o c.bind.result ok (same_parts c.bind.new.self p c.bind.result c.bind.ensures.err) c.self.invariant.1,
+    )
 
-pub returns-in-Ok-clause-ok : goal.returns-in-Ok-clause-ok
-returns-in-Ok-clause-ok c =
-    let bs = map bound_of c.items.result.now in
-    let made = subst (λ (es : List Item). BindsAll es bs c.bind_all.new.context) c.self.view_is c.in-Ok.ensures.ok in
-    let is = ap deed_of_act c.in-Bind.is ∙ ap (λ (bs : List Binding). Bindings (map bound_of bs)) (sym c.items.ensures) in
-    let before = c.len-before.ensures.exact ∙ ap (λ (es : List Item). length es) c.self.view_is in
-    accepted-steps c.args.names.now c.args.self.now c.bind_all.new.context (order_of c.args.command.now) bs is c.accepted.result c.len-before.result c.accepted.new.self before made
-    c.accepted.ensures.ok c.accepted.ensures.kept
+pub invariant_of-self-in-Undo : goal.invariant_of-self-in-Undo
+invariant_of-self-in-Undo c =
+    let p = c.self.inside.parts in
+    let is = ap written_act c.in-Undo.is ∙ ap Undo (sym c.from.ensures) in
+    let o = written_command c.args.command.now in
+    let ok = accepts c.args.names.now c.args.limit (session_of p) (session_of c.undo.new.self) o c.undo.result (Undo c.from.result) is c.undo.ensures.ok in (
+      c.undo.ensures.goes,
+      stays_printable c.args.names.now c.args.limit (session_of p) (session_of c.undo.new.self) o c.undo.result ok (same_parts c.undo.new.self p c.undo.result c.undo.ensures.err) c.self.invariant.1,
+    )
 
-pub returns-in-Ok-clause-err : goal.returns-in-Ok-clause-err
-returns-in-Ok-clause-err c =
-    let bs = map bound_of c.items.result.now in
-    let made = subst (λ (es : List Item). BindsAll es bs c.bind_all.new.context) c.self.view_is c.in-Ok.ensures.ok in
-    let is = ap deed_of_act c.in-Bind.is ∙ ap (λ (bs : List Binding). Bindings (map bound_of bs)) (sym c.items.ensures) in
-    let before = c.len-before.ensures.exact ∙ ap (λ (es : List Item). length es) c.self.view_is in
-    dropped-again c.args.names.now c.args.self.now c.bind_all.new.context (order_of c.args.command.now) bs is c.accepted.result c.len-before.result c.accepted.new.self before made
-    c.accepted.ensures.dropped
+pub invariant_of-self-in-Forget : goal.invariant_of-self-in-Forget
+invariant_of-self-in-Forget c =
+    let p = c.self.inside.parts in
+    let is = ap written_act c.in-Forget.is in
+    let o = written_command c.args.command.now in
+    let ok = accepts c.args.names.now c.args.limit (session_of p) (session_of c.forget.new.self) o c.forget.result
+    (Forget (record { place = c.in-Forget.place; name = c.in-Forget.name })) is c.forget.ensures.ok in (
+      c.forget.ensures.goes,
+      stays_printable c.args.names.now c.args.limit (session_of p) (session_of c.forget.new.self) o c.forget.result ok (same_parts c.forget.new.self p c.forget.result c.forget.ensures.err) c.self.invariant.1,
+    )
 
-pub returns-in-Err-clause-cause : goal.returns-in-Err-clause-cause
-returns-in-Err-clause-cause c =
-    let bs = map bound_of c.items.result.now in
-    let fails = subst (λ (es : List Item). BindAllFails es bs c.bind_all.new.context c.in-Err.fault.place c.in-Err.fault.cause) c.self.view_is c.in-Err.ensures.cause in
-    let is = ap deed_of_act c.in-Bind.is ∙ ap (λ (bs : List Binding). Bindings (map bound_of bs)) (sym c.items.ensures) in
-    refused-steps c.args.names.now c.args.self.now c.bind_all.new.context (order_of c.args.command.now) bs is c.in-Err.fault.place c.refused.result.place
-    c.in-Err.fault.cause c.refused.result.cause c.refused.result.text fails c.refused.ensures.text
+pub returns-in-Bind-clause-ok : goal.returns-in-Bind-clause-ok
+returns-in-Bind-clause-ok c =
+    let is = ap written_act c.in-Bind.is ∙ ap (λ (bs : List Binding). Bindings (map written_binding bs)) (sym c.items.ensures) in
+    let o = written_command c.args.command.now in
+    subst (λ (s : Session). IfOk c.bind.result (λ a. Step c.args.names.now c.args.limit s o (record { refused = false; text = a.text }) (session_of c.bind.new.self))) c.self.view_is
+    (accepts c.args.names.now c.args.limit (session_of c.self.inside.parts) (session_of c.bind.new.self) o c.bind.result (Bindings (map written_binding c.items.result.now)) is c.bind.ensures.ok)
 
-pub returns-in-Ok-clause-known : goal.returns-in-Ok-clause-known
-returns-in-Ok-clause-known c =
-    outcome_known c.args.names.now c.args.self.now c.accepted.new.self (order_of c.args.command.now) c.accepted.result _
-    (returns-in-Ok-clause-ok c) (returns-in-Ok-clause-err c)
+pub returns-in-Undo-clause-ok : goal.returns-in-Undo-clause-ok
+returns-in-Undo-clause-ok c =
+    let is = ap written_act c.in-Undo.is ∙ ap Undo (sym c.from.ensures) in
+    let o = written_command c.args.command.now in
+    subst (λ (s : Session). IfOk c.undo.result (λ a. Step c.args.names.now c.args.limit s o (record { refused = false; text = a.text }) (session_of c.undo.new.self))) c.self.view_is
+    (accepts c.args.names.now c.args.limit (session_of c.self.inside.parts) (session_of c.undo.new.self) o c.undo.result (Undo c.from.result) is c.undo.ensures.ok)
 
-pub returns-in-Err-clause-known : goal.returns-in-Err-clause-known
-returns-in-Err-clause-known c =
-    let fails = subst (λ (es : List Item). BindAllFails es (map bound_of c.items.result.now) c.bind_all.new.context c.in-Err.fault.place c.in-Err.fault.cause) c.self.view_is c.in-Err.ensures.cause in
-    let before = c.len-before.ensures.exact ∙ ap (λ (es : List Item). length es) c.self.view_is in
-    let same = c.refused.ensures.dropped ∙ (ap (λ n. take n c.bind_all.new.context) before ∙ fails.1) in
-    λ known held. subst (AreKnown c.args.names.now) (sym same) known
+pub returns-in-Forget-clause-ok : goal.returns-in-Forget-clause-ok
+returns-in-Forget-clause-ok c =
+    let is = ap written_act c.in-Forget.is in
+    let o = written_command c.args.command.now in
+    subst (λ (s : Session). IfOk c.forget.result (λ a. Step c.args.names.now c.args.limit s o (record { refused = false; text = a.text }) (session_of c.forget.new.self))) c.self.view_is
+    (accepts c.args.names.now c.args.limit (session_of c.self.inside.parts) (session_of c.forget.new.self) o c.forget.result
+    (Forget (record { place = c.in-Forget.place; name = c.in-Forget.name })) is c.forget.ensures.ok)
+
+pub returns-in-Ctxt-clause-ok : goal.returns-in-Ctxt-clause-ok
+returns-in-Ctxt-clause-ok c =
+    let o = written_command c.args.command.now in
+    subst (λ (s : Session). IfOk c.show_context.result (λ a. Step c.args.names.now c.args.limit s o (record { refused = false; text = a.text }) s)) c.self.view_is
+    (shows c.args.names.now c.args.limit (session_of c.self.inside.parts) o c.show_context.result (ap written_act c.in-Ctxt.is) c.show_context.ensures.ok)
+
+pub returns-in-Bind-clause-err : goal.returns-in-Bind-clause-err
+returns-in-Bind-clause-err c =
+    subst (λ (s : Session). OnErr c.bind.result (session_of c.bind.new.self ≡ s)) c.self.view_is
+    (same_parts c.bind.new.self c.self.inside.parts c.bind.result c.bind.ensures.err)
+
+pub returns-in-Undo-clause-err : goal.returns-in-Undo-clause-err
+returns-in-Undo-clause-err c =
+    subst (λ (s : Session). OnErr c.undo.result (session_of c.undo.new.self ≡ s)) c.self.view_is
+    (same_parts c.undo.new.self c.self.inside.parts c.undo.result c.undo.ensures.err)
+
+pub returns-in-Forget-clause-err : goal.returns-in-Forget-clause-err
+returns-in-Forget-clause-err c =
+    subst (λ (s : Session). OnErr c.forget.result (session_of c.forget.new.self ≡ s)) c.self.view_is
+    (same_parts c.forget.new.self c.self.inside.parts c.forget.result c.forget.ensures.err)
+
+pub returns-in-Bind-clause-known : goal.returns-in-Bind-clause-known
+returns-in-Bind-clause-known c =
+    outcome_known c.args.names.now c.args.limit c.args.self.now (session_of c.bind.new.self) (written_command c.args.command.now) c.bind.result
+    (λ a. record { refused = false; text = a.text }) (returns-in-Bind-clause-ok c) (returns-in-Bind-clause-err c)
+
+pub returns-in-Undo-clause-known : goal.returns-in-Undo-clause-known
+returns-in-Undo-clause-known c =
+    outcome_known c.args.names.now c.args.limit c.args.self.now (session_of c.undo.new.self) (written_command c.args.command.now) c.undo.result
+    (λ a. record { refused = false; text = a.text }) (returns-in-Undo-clause-ok c) (returns-in-Undo-clause-err c)
+
+pub returns-in-Forget-clause-known : goal.returns-in-Forget-clause-known
+returns-in-Forget-clause-known c =
+    outcome_known c.args.names.now c.args.limit c.args.self.now (session_of c.forget.new.self) (written_command c.args.command.now) c.forget.result
+    (λ a. record { refused = false; text = a.text }) (returns-in-Forget-clause-ok c) (returns-in-Forget-clause-err c)
+
+pub returns-in-Undo-clause-complete : goal.returns-in-Undo-clause-complete
+returns-in-Undo-clause-complete c =
+    let is = ap written_act c.in-Undo.is ∙ ap Undo (sym c.from.ensures) in
+    let o = written_command c.args.command.now in
+    subst (λ (s : Session). IfErr c.undo.result (λ e. IsFeasible s o.act → e.cause ≡ Memory)) c.self.view_is
+    (completes c.args.names.now c.args.limit (session_of c.self.inside.parts) (session_of c.undo.new.self) o c.undo.result
+    (refuses c.args.names.now c.args.limit (session_of c.self.inside.parts) (session_of c.undo.new.self) o c.undo.result (Undo c.from.result) is (c.undo.ensures.cause c.args.limit)))
+
+pub returns-in-Forget-clause-complete : goal.returns-in-Forget-clause-complete
+returns-in-Forget-clause-complete c =
+    let is = ap written_act c.in-Forget.is in
+    let o = written_command c.args.command.now in
+    subst (λ (s : Session). IfErr c.forget.result (λ e. IsFeasible s o.act → e.cause ≡ Memory)) c.self.view_is
+    (completes c.args.names.now c.args.limit (session_of c.self.inside.parts) (session_of c.forget.new.self) o c.forget.result
+    (refuses c.args.names.now c.args.limit (session_of c.self.inside.parts) (session_of c.forget.new.self) o c.forget.result
+    (Forget (record { place = c.in-Forget.place; name = c.in-Forget.name })) is (c.forget.ensures.cause c.args.limit c.args.command.now.place)))

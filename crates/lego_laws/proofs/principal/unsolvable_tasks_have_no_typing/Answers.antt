@@ -1,0 +1,5 @@
+use Rattle.lego_laws.proofs.principal.unsolvable_tasks_have_no_typing.Goals as goal
+use Rattle.lego_laws.proofs.Tasks.{unsolvable_tasks_have_no_typing}
+
+pub returns : goal.returns
+returns c = unsolvable_tasks_have_no_typing

@@ -1,0 +1,14 @@
+use Rattle.std.proofs.Common.{◌≡◌, length}
+use Rattle.lego_parser.specs.private.Trees.{built}
+use Rattle.lego_grammar.specs.private.Machine.{closed}
+use Rattle.lego_parser.specs.private.Stack.{stack}
+use Rattle.lego_parser.proofs.stack.Stack.close.Given as goal
+
+abbrev pub invariant-loop-value : goal.invariant-loop-value
+invariant-loop-value l = record {
+  same : closed l.initial.self.building (built l.initial.value) (stack l.initial.self) ≡ closed l.initial.self.building (built l.value) (stack l.self);
+  building : l.self.building ≡ l.initial.self.building;
+}
+
+abbrev pub decreases-loop-value : goal.decreases-loop-value
+decreases-loop-value l = length (stack l.self)

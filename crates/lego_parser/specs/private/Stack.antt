@@ -1,0 +1,38 @@
+-- What the parser's stack stands for.
+use Rattle.std.specs.Prelude.{◌≡◌, ℕ, List, [], ◌∷◌, Bool, true, false, Option, Some, None, MatchOption, ◌<◌, length}
+use Rattle.lego_base.specs.declared.place.Place.{Place}
+use Rattle.lego_lexer.specs.declared.token.TokenKind.{TokenKind}
+use Rattle.lego_grammar.specs.private.Machine.{State, state, acts}
+use Rattle.lego_grammar.specs.Written.{Written}
+use Rattle.lego_grammar.specs.private.Machine as M
+use Rattle.lego_parser.specs.private.Frames.{frame_of, frames_of, mode_of}
+use Rattle.lego_parser.specs.declared.machine.Frame.{Frame}
+use Rattle.lego_parser.specs.declared.machine.Mode.{Mode}
+use Rattle.lego_parser.specs.declared.stack.Stack.{Stack}
+
+abbrev pub stack : Stack → List M.Frame
+stack s = frames_of s.frames.items
+
+-- the mode and the stack behind a token are these, or none is possible
+abbrev pub Gives : Option State → Option Mode → Stack → Type 0
+Gives wanted mode after = MatchOption mode (wanted ≡ None) (λ m. wanted ≡ Some (state (mode_of m) (stack after)))
+
+-- no frame of this kind is on top
+abbrev pub Stops : (M.Frame → Bool) → List M.Frame → Type 0
+Stops kind [] = Unit {0}
+Stops kind (f ∷ fs) = kind f ≡ false
+
+-- the frame on top is taken where it is of this kind; else none is
+abbrev pub Takes : (M.Frame → Bool) → List M.Frame → Option Frame → List M.Frame → Type 0
+Takes kind before taken after =
+    MatchOption taken ((before ≡ after) × Stops kind after) (λ f. (before ≡ frame_of f ∷ after) × (kind (frame_of f) ≡ true))
+
+-- A term ends a part of what it is the last part of: with the term that this makes, as much is left to end as before; or nothing
+-- is left.
+abbrev pub Ends : (Written → List M.Frame → Written × List M.Frame) → Bool → Written → List M.Frame → Written → List M.Frame → Type 0
+Ends ends true v fs w gs = (ends v fs ≡ ends w gs) × (length gs < length fs)
+Ends ends false v fs w gs = ends v fs ≡ (w, gs)
+
+-- the mode behind a token inside or behind an action, whatever is awaited
+abbrev pub Acts : TokenKind → Place → ℕ → M.Mode → Option Mode → Type 0
+Acts kind place name mode next = (build : Bool) (s : Stack) → Gives (acts build kind place name mode (stack s)) next s

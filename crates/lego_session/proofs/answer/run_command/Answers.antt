@@ -1,8 +1,0 @@
-use Rattle.lego_grammar.specs.Surface.{order_of}
-use Rattle.lego_session.proofs.AnswerLemmas.{step_written}
-use Rattle.lego_session.proofs.answer.run_command.Goals as goal
-
-pub returns-clause-answered : goal.returns-clause-answered
-returns-clause-answered c =
-    step_written c.args.names.now c.args.session.now c.step-outcome.new.self (order_of c.args.command) c.step-outcome.result c.written.result
-    c.step-outcome.ensures.ok c.step-outcome.ensures.cause c.step-outcome.ensures.err c.written.ensures

@@ -1,0 +1,4 @@
+pub mod Bindings
+pub mod Undo
+pub mod Forget
+pub mod Ctxt

@@ -1,0 +1,6 @@
+//! What each command does to a session, and what it answers.
+
+pub(crate) mod bindings;
+pub(crate) mod ctxt;
+pub(crate) mod forget;
+pub(crate) mod undo;

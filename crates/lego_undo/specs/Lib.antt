@@ -1,0 +1,4 @@
+pub mod Histories
+pub mod Changes
+pub mod ChangeCode
+pub mod private

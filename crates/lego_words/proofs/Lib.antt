@@ -1,0 +1,5 @@
+mod FormLemmas
+mod OptionLemmas
+mod PassedLemmas
+mod LawLemmas
+mod MatchLemmas
