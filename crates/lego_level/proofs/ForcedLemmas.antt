@@ -4,7 +4,7 @@ use Rattle.std.specs.List.{AllByRecursion}
 use Rattle.std.proofs.lemmas.List.Elements.{Contains-push_cases}
 use Rattle.std.proofs.lemmas.List.Sums.{sum_by_push}
 use Rattle.lego_term.specs.Levels.{node_value}
-use Rattle.lego_level.specs.declared.limits.TheConstants.{MAX_VALUE}
+use Rattle.lego_level.specs.Limits.{MAX_VALUE}
 use Rattle.lego_level.specs.declared.constraint.Constraint.{Constraint}
 use Rattle.lego_level.specs.declared.draft.Reached.{Reached}
 use Rattle.lego_level.specs.Graphs.{IsWalk, Differ, IsKnown, IsForcing, Forces, IsVariableBelow, HasVariablesBelow}

@@ -6,7 +6,7 @@ use Rattle.std.proofs.lemmas.List.{drop_more, take_more, get_or_append_left, get
 use Rattle.std.proofs.lemmas.List.Elements.{Contains-get_or, Contains-append_left}
 use Rattle.std.proofs.lemmas.List.FromFn.{length-map-range_with_len, get_or-map-range_with_len}
 use Rattle.lego_term.specs.Levels.{Assignment, node_value}
-use Rattle.lego_level.specs.declared.limits.TheConstants.{MAX_VALUE}
+use Rattle.lego_level.specs.Limits.{MAX_VALUE}
 use Rattle.lego_level.specs.declared.constraint.Constraint.{Constraint}
 use Rattle.lego_level.specs.declared.draft.Reached.{Reached}
 use Rattle.lego_level.specs.declared.draft.Draft.{Draft}

@@ -2,7 +2,7 @@
 use Rattle.std.specs.Prelude.{◌≡◌, ℕ, ◌<◌, ◌≤◌, ◌⊎◌, ◌+◌, ◌++◌, List, [], ◌∷◌, map, Option, Some, None, sum_by, get_or, Contains}
 use Rattle.std.specs.List.{AllByRecursion}
 use Rattle.lego_term.specs.Levels.{Assignment, LevelPair, SatisfiesAll, fixed_level, variable_level}
-use Rattle.lego_level.specs.declared.limits.TheConstants.{MAX_VALUE}
+use Rattle.lego_level.specs.Limits.{MAX_VALUE}
 use Rattle.lego_level.specs.declared.constraint.Constraint.{Constraint}
 
 -- a constraint as the rules see it

@@ -1,3 +1,4 @@
 pub mod Graphs
+pub mod Limits
 pub mod Refusals
 pub mod private

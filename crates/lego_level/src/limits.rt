@@ -1,4 +1,4 @@
-//! The limits of a graph, which specs cite by the same names.
+//! The limits of a graph, which have the same names in specs.
 
 /// The greatest least value that a variable may have.
 pub const MAX_VALUE: u64 = 1_000_000;

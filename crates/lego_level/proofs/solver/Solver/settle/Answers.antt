@@ -1,5 +1,5 @@
 use Rattle.std.proofs.Common.{subst}
-use Rattle.lego_level.specs.declared.limits.TheConstants.{MAX_VALUE}
+use Rattle.lego_level.specs.Limits.{MAX_VALUE}
 use Rattle.lego_level.specs.Graphs.{CanBeSatisfiedWithin, Forces}
 use Rattle.lego_level.specs.private.Outcomes.{IsSettled}
 use Rattle.lego_level.specs.private.Searches.{reached_at}
