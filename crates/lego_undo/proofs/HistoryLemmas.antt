@@ -5,7 +5,7 @@ use Rattle.lego_undo.proofs.ExtendsLemmas.{no_longer}
 use Rattle.std.proofs.Math.Seq.{take-append_seam}
 use Rattle.std.specs.Prelude.{Result, Ok, Err, OnOk}
 use Rattle.lego_undo.specs.Histories.{Held, held, before, front, origin, old_states, Fits, GoesWith}
-use Rattle.lego_undo.specs.Changes.{Extends, IsChange, cut, whole, Notes, Undoes}
+use Rattle.lego_undo.specs.Changes.{IsFrontOf, IsChange, cut, whole, Notes, Undoes}
 use Rattle.lego_undo.specs.private.Last.{UndoesLast, Undone}
 use Rattle.lego_undo.specs.declared.state.State.{State}
 use Rattle.lego_undo.specs.declared.change.Change.{Change}
@@ -107,16 +107,16 @@ growth cs entries new l g e = noted cs (front entries new) new (Cut entries) e i
     is : IsChange (front entries new) new (Cut entries)
     is = subst (λ n. IsChange (front entries new) new (Cut n)) size (cut (ap (λ n. front n new) size))
 
-pub extended : (cs : List Change) (old new : State) {after : List Change} → Extends old new → GoesWith cs old
+pub extended : (cs : List Change) (old new : State) {after : List Change} → IsFrontOf old new → GoesWith cs old
     → after ≡ cs ++ Cut (length old.context) ∷ [] → Notes cs old new after
 extended cs old new x g e =
     noted cs old new (Cut (length old.context)) e (cut x) x (no_longer old.context new.context (ap (λ (s : State). s.context) x)) g
 
-pub replaced : (cs : List Change) (old new : State) {after : List Change} → (Extends old new → ⊥) → GoesWith cs old
+pub replaced : (cs : List Change) (old new : State) {after : List Change} → (IsFrontOf old new → ⊥) → GoesWith cs old
     → after ≡ cs ++ Whole old ∷ [] → Notes cs old new after
 replaced cs old new x g e = noted cs old new (Whole old) e (whole x) refl tt g
 
-pub shorter : (old : State) (at : ℕ) → at < length old.context → Extends old (front at old) → ⊥
+pub shorter : (old : State) (at : ℕ) → at < length old.context → IsFrontOf old (front at old) → ⊥
 shorter old at l x =
     let longer = no_longer old.context (take at old.context) (ap (λ (s : State). s.context) x) in
     absurd (omega (arith, length-take-le at old.context (omega arith)))

@@ -17,7 +17,7 @@ of_option None es = Whole (record { context = es })
 abbrev of_parts : Option ℕ × List Item → Change
 of_parts p = of_option p.0 p.1
 
-abbrev pub back : (c : Change) → of_parts (to_parts c) ≡ c
+abbrev back : (c : Change) → of_parts (to_parts c) ≡ c
 back (Cut entries) = refl
 back (Whole state) = refl
 

@@ -8,13 +8,13 @@ use Rattle.lego_undo.specs.declared.undo_fault.UndoFault.{UndoFault}
 use Rattle.lego_undo.specs.declared.undo_fault.UndoFault.TheVariants.{TooFar}
 
 -- the old entries are the first of the new ones
-abbrev pub Extends : State → State → Type 0
-Extends old new = front (length old.context) new ≡ old
+abbrev pub IsFrontOf : State → State → Type 0
+IsFrontOf old new = front (length old.context) new ≡ old
 
 -- a cut where that serves, and else the whole old state
 pub data IsChange (old new : State) : Change → Type 0 where
-  cut : Extends old new → IsChange old new (Cut (length old.context))
-  whole : (Extends old new → ⊥) → IsChange old new (Whole old)
+  cut : IsFrontOf old new → IsChange old new (Cut (length old.context))
+  whole : (IsFrontOf old new → ⊥) → IsChange old new (Whole old)
 
 -- The history with one more step: it has one more change, and gives, with the new state, what it gave with the old one, and
 -- then the old one.

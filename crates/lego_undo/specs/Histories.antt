@@ -6,7 +6,7 @@ use Rattle.lego_undo.specs.declared.change.Change.TheVariants.{Cut, Whole}
 
 -- the state with the first so many entries
 abbrev pub front : ℕ → State → State
-front entries state = record { context = take entries state.context }
+front entries state = record state { context = take entries state.context }
 
 -- the state before a change, from the state behind it
 abbrev pub before : Change → State → State

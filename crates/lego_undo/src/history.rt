@@ -57,7 +57,12 @@ impl History {
     }
 
     /// Notes a step from `old` to `new`: as a cut where the old entries are the first of the new
-    /// ones, and else as a whole copy of the old state. The time is linear in the entries.
+    /// ones, and else as a whole copy of the old state. Each old entry's type is compared node by
+    /// node.
+    ///
+    /// # Errors
+    ///
+    /// Memory ran out; the history is then as before.
     pub fn note(&mut self, old: &State, new: &State) -> Result<(), AllocError>
         requires { GoesWith self.old old.now }
         ensures ok { OnOk result (Notes self.old old.now new.now self.new) }
@@ -75,6 +80,10 @@ impl History {
 
     /// Notes a step that added entries behind the first `entries`, of which the old state
     /// had no more. It is noted as a cut, in constant time but for a growing list.
+    ///
+    /// # Errors
+    ///
+    /// Memory ran out; the history is then as before.
     pub fn note_growth(&mut self, new: &State, entries: usize) -> Result<(), AllocError>
         requires within { entries ≤ length new.now.context }
         requires goes { GoesWith self.old (front entries new.now) }
@@ -87,7 +96,11 @@ impl History {
     }
 
     /// Keeps the entries before a place in the state, and notes that as a step. The old state
-    /// moves into the history.
+    /// moves into the history; the list of the entries that stay is copied.
+    ///
+    /// # Errors
+    ///
+    /// Memory ran out; state and history are then as before.
     pub fn forget(&mut self, state: &mut State, at: usize) -> Result<(), AllocError>
         requires within { at < length state.old.context }
         requires goes { GoesWith self.old state.old }

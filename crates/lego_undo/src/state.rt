@@ -1,6 +1,6 @@
 //! States of a session.
 ghost use Rattle.std.specs.Prelude.{◌≡◌, ◌↔◌, IfOk, IsTrue};
-ghost use Rattle.lego_undo.specs.Changes.{Extends};
+ghost use Rattle.lego_undo.specs.Changes.{IsFrontOf};
 
 use lego_kernel::{Context, Entry};
 use lego_term::{Mark, identical};
@@ -23,7 +23,7 @@ impl State {
 
     /// Whether the old entries are the first of these.
     pub(crate) fn extends(&self, old: &State) -> bool
-        ensures { IsTrue result ↔ Extends old.now self.now }
+        ensures { IsTrue result ↔ IsFrontOf old.now self.now }
     {
         for at in 0..old.context.len() {
             let (Some(before), Some(entry)) = (old.context.entry(at), self.context.entry(at)) else {

@@ -1,5 +1,5 @@
 use Rattle.std.proofs.Common.{◌++◌, ◌∷◌, [], ap, ◌∙◌, rules}
-use Rattle.lego_undo.specs.Changes.{Extends}
+use Rattle.lego_undo.specs.Changes.{IsFrontOf}
 use Rattle.lego_undo.specs.declared.change.Change.{Change}
 use Rattle.lego_undo.specs.declared.change.Change.TheVariants.{Cut, Whole}
 use Rattle.lego_undo.proofs.HistoryLemmas.{extended, replaced, on_ok}
@@ -16,7 +16,7 @@ returns-clause-ok c =
           on_ok c.push.result
           (λ e. extended cs c.args.old.now c.args.new.now is c.requires (e ∙ ap (λ (x : Change). cs ++ x ∷ []) change)) c.push.ensures.ok
       | else-extends+in_ok-state w ↦
-          let never : Extends c.args.old.now c.args.new.now → ⊥ = λ x. let t = c.extends.ensures.1 x in let f = w.if-extends.false in search rules in
+          let never : IsFrontOf c.args.old.now c.args.new.now → ⊥ = λ x. let t = c.extends.ensures.1 x in let f = w.if-extends.false in search rules in
           let change = w.change-is ∙ ap (λ s. Whole s) w.in_ok-state.ensures in
           on_ok c.push.result
           (λ e. replaced cs c.args.old.now c.args.new.now never c.requires (e ∙ ap (λ (x : Change). cs ++ x ∷ []) change)) c.push.ensures.ok
