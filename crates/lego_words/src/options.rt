@@ -17,7 +17,7 @@ pub struct Options {
 pub enum WordsFault {
     /// The words aren't of the written form. The index is that of the first word with which no
     /// list of that form goes on, or the number of words where only a value is missing.
-    #[error("word {index} is no option, or one that was given before")]
+    #[error("word {index}, counted from 0, is wrong or missing")]
     Usage { index: u32 },
     /// Memory ran out.
     #[error("out of memory")]
