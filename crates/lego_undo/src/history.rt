@@ -79,7 +79,7 @@ impl History {
     }
 
     /// Notes a step that added entries behind the first `entries`, of which the old state
-    /// had no more. It is noted as a cut, in constant time but for a growing list.
+    /// had no more. It is noted as a cut.
     ///
     /// # Errors
     ///
