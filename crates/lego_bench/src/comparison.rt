@@ -1,10 +1,10 @@
 //! The workloads that compare terms.
 
 use crate::fault::BenchFault;
-use crate::workload::{Counts, Found, LIMIT, PLAIN, chain, counts_of, doubled};
+use crate::workload::{Counts, Found, LIMIT, PLAIN, chain, counts_of, doubled, redex};
 use lego_base::Place;
 use lego_compare::same;
-use lego_term::{Mark, Term, TermFault, app, equal, konst, lam, pi, prop, var};
+use lego_term::{Mark, Term, TermFault, app, equal, konst, pi, prop, var};
 use std::alloc::Global;
 
 /// How often `Prop` is doubled in a domain of `products`.
@@ -53,18 +53,10 @@ fn doubled_but_last(alloc: Global, size: u32) -> Result<Term, TermFault> {
     Ok(last)
 }
 
-/// A constant, and a redex that goes to it.
-fn constant_and_redex(alloc: Global) -> Result<(Term, Term), TermFault> {
-    let identity = lam(alloc, PLAIN, &prop(alloc)?, &var(alloc, 0)?)?;
-    let constant = konst(alloc, 7)?;
-    let redex = app(alloc, Mark::Plain, &identity, &constant)?;
-    Ok((constant, redex))
-}
-
 /// Compares two spines of so many arguments, which are a constant in the one, and a redex that
 /// goes to it in the other.
 pub(crate) fn spines(alloc: Global, size: u32) -> Result<Counts, BenchFault> {
-    let (argument, redex) = constant_and_redex(alloc)?;
+    let (argument, redex) = (konst(alloc, 7)?, redex(alloc)?);
     let mut left = konst(alloc, 1)?;
     let mut right = konst(alloc, 1)?;
     for _ in 0..size {
@@ -77,7 +69,7 @@ pub(crate) fn spines(alloc: Global, size: u32) -> Result<Counts, BenchFault> {
 /// Compares two chains of so many products with large equal domains, made apart, whose end is a
 /// constant in the one, and a redex that goes to it in the other.
 pub(crate) fn products(alloc: Global, size: u32) -> Result<Counts, BenchFault> {
-    let (mut left, mut right) = constant_and_redex(alloc)?;
+    let (mut left, mut right) = (konst(alloc, 7)?, redex(alloc)?);
     let domain = doubled(alloc, prop(alloc)?, DOMAIN)?;
     let other = doubled(alloc, prop(alloc)?, DOMAIN)?;
     for _ in 0..size {

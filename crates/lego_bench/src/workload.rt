@@ -192,48 +192,43 @@ fn numeral(alloc: Global, n: u32) -> Result<Term, TermFault> {
 
 /// The normal form of 2 to the power of `size`, of Church numerals.
 fn exponential(alloc: Global, size: u32) -> Result<Counts, BenchFault> {
-    let bodies = chain(alloc, 1)?;
-    let t = app(
-        alloc,
-        Mark::Plain,
-        &numeral(alloc, size)?,
-        &numeral(alloc, 2)?,
-    )?;
-    if t.loose() > 0 {
-        return Err(BenchFault::Usage);
-    }
-    let end = normal(alloc, &bodies, &t, LIMIT)?;
-    Ok(counts_of(&end.term, Found::Steps(end.steps)))
+    let power = numeral(alloc, size)?;
+    let base = numeral(alloc, 2)?;
+    normalise(alloc, &app(alloc, Mark::Plain, &power, &base)?)
 }
 
 /// Normalises a redex under so many binders.
 fn deep(alloc: Global, size: u32) -> Result<Counts, BenchFault> {
-    let bodies = chain(alloc, 1)?;
-    let identity = lam(alloc, PLAIN, &prop(alloc)?, &var(alloc, 0)?)?;
-    let mut t = app(alloc, Mark::Plain, &identity, &konst(alloc, 7)?)?;
+    let mut t = redex(alloc)?;
     for _ in 0..size {
         t = lam(alloc, PLAIN, &prop(alloc)?, &t)?;
     }
-    if t.loose() > 0 {
-        return Err(BenchFault::Usage);
-    }
-    let end = normal(alloc, &bodies, &t, LIMIT)?;
-    Ok(counts_of(&end.term, Found::Steps(end.steps)))
+    normalise(alloc, &t)
 }
 
 /// Normalises a redex in the second part of so many pairs, each in the second part of the next.
 fn pairs(alloc: Global, size: u32) -> Result<Counts, BenchFault> {
-    let bodies = chain(alloc, 1)?;
     let other = prop(alloc)?;
-    let identity = lam(alloc, PLAIN, &other, &var(alloc, 0)?)?;
-    let mut t = app(alloc, Mark::Plain, &identity, &konst(alloc, 7)?)?;
+    let mut t = redex(alloc)?;
     for _ in 0..size {
         t = pair(alloc, PLAIN, &other, &other, &other, &t)?;
     }
+    normalise(alloc, &t)
+}
+
+/// A redex that goes to constant 7.
+pub(crate) fn redex(alloc: Global) -> Result<Term, TermFault> {
+    let identity = lam(alloc, PLAIN, &prop(alloc)?, &var(alloc, 0)?)?;
+    app(alloc, Mark::Plain, &identity, &konst(alloc, 7)?)
+}
+
+/// The normal form of a closed term, over no bodies.
+fn normalise(alloc: Global, t: &Term) -> Result<Counts, BenchFault> {
     if t.loose() > 0 {
         return Err(BenchFault::Usage);
     }
-    let end = normal(alloc, &bodies, &t, LIMIT)?;
+    let bodies = chain(alloc, 1)?;
+    let end = normal(alloc, &bodies, t, LIMIT)?;
     Ok(counts_of(&end.term, Found::Steps(end.steps)))
 }
 
