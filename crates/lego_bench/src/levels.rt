@@ -79,7 +79,7 @@ fn at_most(low: u32, plus: u32, high: u32) -> Constraint
 }
 
 /// What a graph holds, where no least value was asked for.
-fn unasked(graph: &Graph, refused: u64) -> Held {
+fn count_held(graph: &Graph, refused: u64) -> Held {
     Held {
         constraints: graph.len() as u64,
         value: 0,
@@ -146,7 +146,7 @@ fn layers(alloc: Global, size: u32) -> Result<Held, BenchFault>
         };
         fill_gap(&mut graph, gap)?;
     }
-    Ok(unasked(&graph, 0))
+    Ok(count_held(&graph, 0))
 }
 
 /// Adds each constraint between two layers, by a call of its own.
@@ -176,7 +176,7 @@ fn cycles(alloc: Global, size: u32) -> Result<Held, BenchFault>
         let closes = closes_a_cycle(&mut graph, at_most(first + span, 0, first));
         refused = refused.saturating_add(u64::from(closes));
     }
-    Ok(unasked(&graph, refused))
+    Ok(count_held(&graph, refused))
 }
 
 /// A chain of which half is taken away and added again, some times.
@@ -189,7 +189,7 @@ fn again(alloc: Global, size: u32) -> Result<Held, BenchFault>
         graph.cut_to(half);
         add_rest(&mut graph, size)?;
     }
-    Ok(unasked(&graph, 0))
+    Ok(count_held(&graph, 0))
 }
 
 /// A chain of so many constraints, which one more closes to a cycle through all its levels, some
@@ -203,7 +203,7 @@ fn ring(alloc: Global, size: u32) -> Result<Held, BenchFault>
         let closes = closes_a_cycle(&mut graph, at_most(size, 0, 0));
         refused = refused.saturating_add(u64::from(closes));
     }
-    Ok(unasked(&graph, refused))
+    Ok(count_held(&graph, refused))
 }
 
 /// Levels each of which is at most the next one, which is at most it.
@@ -220,7 +220,7 @@ fn both(alloc: Global, size: u32) -> Result<Held, BenchFault>
         };
         graph.extend(&[at_most(low, 0, high)])?;
     }
-    Ok(unasked(&graph, 0))
+    Ok(count_held(&graph, 0))
 }
 
 /// Adds the second half of a chain.
