@@ -78,6 +78,20 @@ fn at_most(low: u32, plus: u32, high: u32) -> Constraint
     }
 }
 
+/// What a graph holds, where no least value was asked for.
+fn count_held(graph: &Graph, refused: u64) -> Held {
+    Held {
+        constraints: graph.len() as u64,
+        value: 0,
+        refused,
+    }
+}
+
+/// Whether a constraint is refused since it closes a cycle.
+fn closes_a_cycle(graph: &mut Graph, constraint: Constraint) -> bool {
+    matches!(graph.extend(&[constraint]), Err(GraphFault::Cycle(_)))
+}
+
 /// The constraint of a chain that comes at this turn.
 fn link(size: u32, turn: u32, order: Order) -> Constraint
     requires turn { turn < size }
@@ -132,11 +146,7 @@ fn layers(alloc: Global, size: u32) -> Result<Held, BenchFault>
         };
         fill_gap(&mut graph, gap)?;
     }
-    Ok(Held {
-        constraints: graph.len() as u64,
-        value: 0,
-        refused: 0,
-    })
+    Ok(count_held(&graph, 0))
 }
 
 /// Adds each constraint between two layers, by a call of its own.
@@ -163,16 +173,10 @@ fn cycles(alloc: Global, size: u32) -> Result<Held, BenchFault>
     for turn in 0..CYCLES {
         let span = 1 + turn % MAX_CYCLE;
         let first = turn * 7919 % (size - MAX_CYCLE);
-        let outcome = graph.extend(&[at_most(first + span, 0, first)]);
-        if matches!(outcome, Err(GraphFault::Cycle(_))) {
-            refused = refused.saturating_add(1);
-        }
+        let closes = closes_a_cycle(&mut graph, at_most(first + span, 0, first));
+        refused = refused.saturating_add(u64::from(closes));
     }
-    Ok(Held {
-        constraints: graph.len() as u64,
-        value: 0,
-        refused,
-    })
+    Ok(count_held(&graph, refused))
 }
 
 /// A chain of which half is taken away and added again, some times.
@@ -185,11 +189,7 @@ fn again(alloc: Global, size: u32) -> Result<Held, BenchFault>
         graph.cut_to(half);
         add_rest(&mut graph, size)?;
     }
-    Ok(Held {
-        constraints: graph.len() as u64,
-        value: 0,
-        refused: 0,
-    })
+    Ok(count_held(&graph, 0))
 }
 
 /// A chain of so many constraints, which one more closes to a cycle through all its levels, some
@@ -200,16 +200,10 @@ fn ring(alloc: Global, size: u32) -> Result<Held, BenchFault>
     let mut graph = chain(alloc, size, Order::FirstToLast)?;
     let mut refused = 0u64;
     for _ in 0..CLOSINGS {
-        let outcome = graph.extend(&[at_most(size, 0, 0)]);
-        if matches!(outcome, Err(GraphFault::Cycle(_))) {
-            refused = refused.saturating_add(1);
-        }
+        let closes = closes_a_cycle(&mut graph, at_most(size, 0, 0));
+        refused = refused.saturating_add(u64::from(closes));
     }
-    Ok(Held {
-        constraints: graph.len() as u64,
-        value: 0,
-        refused,
-    })
+    Ok(count_held(&graph, refused))
 }
 
 /// Levels each of which is at most the next one, which is at most it.
@@ -217,17 +211,16 @@ fn both(alloc: Global, size: u32) -> Result<Held, BenchFault>
     requires { size ≤ 10000000 }
 {
     let mut graph = Graph::new(alloc);
-    for number in 0..size {
-        graph.extend(&[at_most(number, 0, number + 1)])?;
+    for turn in 0..2 * size {
+        let number = turn % size;
+        let (low, high) = if turn < size {
+            (number, number + 1)
+        } else {
+            (number + 1, number)
+        };
+        graph.extend(&[at_most(low, 0, high)])?;
     }
-    for number in 0..size {
-        graph.extend(&[at_most(number + 1, 0, number)])?;
-    }
-    Ok(Held {
-        constraints: graph.len() as u64,
-        value: 0,
-        refused: 0,
-    })
+    Ok(count_held(&graph, 0))
 }
 
 /// Adds the second half of a chain.

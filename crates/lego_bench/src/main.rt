@@ -2,6 +2,7 @@
 //! word, and prints what each came to.
 #![tactic(auto)]
 
+mod comparison;
 mod fault;
 mod levels;
 mod workload;
@@ -24,8 +25,8 @@ fn main(rt: HostRuntime) -> Result<(), BenchFault> {
         let size = word.as_str();
         let printed = match outcome {
             Outcome::Terms(counts) => {
-                let (nodes, depth, steps) = (counts.nodes, counts.depth, counts.steps);
-                println!(rt; "{name} {size}: {nodes} nodes, {depth} deep, {steps} steps")
+                let (nodes, depth, found) = (counts.nodes, counts.depth, counts.found);
+                println!(rt; "{name} {size}: {nodes} nodes, {depth} deep, {found}")
             }
             Outcome::Levels(held) => {
                 let (count, value, refused) = (held.constraints, held.value, held.refused);

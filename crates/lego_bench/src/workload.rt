@@ -2,31 +2,61 @@
 ghost use Rattle.std.specs.Prelude.{IfOk};
 ghost use Rattle.lego_term.specs.BodyMap.{AreClosed};
 
+use crate::comparison;
 use crate::fault::BenchFault;
 use crate::levels::{Held, run_levels};
-use lego_base::Place;
-use lego_compare::same;
 use lego_reduce::{ReduceFault, head, normal};
 use lego_term::{
-    Binder, Bodies, Mark, Term, TermFault, app, equal, konst, lam, lift, local, measure, pair,
-    prop, subst, var,
+    Binder, Bodies, Mark, Term, TermFault, app, konst, lam, lift, local, measure, pair, prop,
+    subst, var,
 };
 use std::alloc::Global;
+use std::fmt;
 
 /// The most steps of a workload.
-const LIMIT: u64 = 100_000_000;
+pub(crate) const LIMIT: u64 = 100_000_000;
 
-const PLAIN: Binder = Binder {
+pub(crate) const PLAIN: Binder = Binder {
     name: None,
     mark: Mark::Plain,
 };
 
-/// What a workload of terms came to: the size and depth of its last term, and a number of steps.
+/// What was found of a workload's terms.
+#[derive(Debug, Clone, Copy, PartialEq, Eq, Drop)]
+pub enum Found {
+    /// They were made.
+    Made,
+    /// So many steps of reduction were made.
+    Steps(u64),
+    /// They convert under so many constraints.
+    Constraints(u64),
+    /// They are equal.
+    Equal,
+    /// They are not equal.
+    Different,
+    /// The weight passes its limit.
+    TooHeavy,
+}
+
+impl fmt::Display for Found {
+    fn fmt<W: fmt::Write>(&self, f: &mut fmt::Formatter<W>) -> fmt::Result {
+        match self {
+            Found::Made => write!(f, "made"),
+            Found::Steps(count) => write!(f, "{count} steps"),
+            Found::Constraints(count) => write!(f, "{count} constraints"),
+            Found::Equal => write!(f, "equal"),
+            Found::Different => write!(f, "different"),
+            Found::TooHeavy => write!(f, "too heavy"),
+        }
+    }
+}
+
+/// What a workload of terms came to: the size and depth of its last term, and what was found.
 #[derive(Debug, Clone, Copy, PartialEq, Eq, Drop)]
 pub struct Counts {
     pub nodes: u64,
     pub depth: u32,
-    pub steps: u64,
+    pub found: Found,
 }
 
 /// What a workload came to.
@@ -49,8 +79,8 @@ pub fn run_workload(alloc: Global, name: &str, size: u32) -> Result<Outcome, Ben
 fn run_terms(alloc: Global, name: &str, size: u32) -> Result<Counts, BenchFault> {
     match name {
         "share" => share(alloc, size),
-        "equal" => compare(alloc, size),
-        "differ" => differ(alloc, size),
+        "equal" => comparison::equals(alloc, size),
+        "differ" => comparison::differ(alloc, size),
         "lift" => raise(alloc, size),
         "subst" => replace(alloc, size),
         "loop" => run_on(alloc, size),
@@ -59,21 +89,23 @@ fn run_terms(alloc: Global, name: &str, size: u32) -> Result<Counts, BenchFault>
         "deep" => deep(alloc, size),
         "pairs" => pairs(alloc, size),
         "locals" => locals(alloc, size),
-        "spines" => spines(alloc, size),
+        "spines" => comparison::spines(alloc, size),
+        "products" => comparison::products(alloc, size),
+        "aliases" => comparison::aliases(alloc, size),
         _ => Err(BenchFault::Usage),
     }
 }
 
-fn counts_of(t: &Term, steps: u64) -> Counts {
+pub(crate) fn counts_of(t: &Term, found: Found) -> Counts {
     Counts {
         nodes: t.size(),
         depth: t.depth(),
-        steps,
+        found,
     }
 }
 
 /// The leaf doubled so many times: `App t t` of the term before it, which is shared.
-fn doubled(alloc: Global, leaf: Term, size: u32) -> Result<Term, TermFault> {
+pub(crate) fn doubled(alloc: Global, leaf: Term, size: u32) -> Result<Term, TermFault> {
     let mut t = leaf;
     for _ in 0..size {
         t = app(alloc, Mark::Plain, &t, &t)?;
@@ -87,39 +119,7 @@ fn share(alloc: Global, size: u32) -> Result<Counts, BenchFault> {
     if t.loose() > 0 {
         return Err(BenchFault::Usage);
     }
-    Ok(counts_of(&lift(alloc, &t, 0, 1)?, 0))
-}
-
-/// Compares a term with one that was made apart from it; 1 step says that they are equal.
-fn compare(alloc: Global, size: u32) -> Result<Counts, BenchFault> {
-    let t = doubled(alloc, prop(alloc)?, size)?;
-    let u = doubled(alloc, prop(alloc)?, size)?;
-    Ok(counts_of(&t, u64::from(equal(&t, &u))))
-}
-
-/// Compares two terms of 1,048,575 nodes that differ at their last leaf, so many times, and makes
-/// the root of one anew each time; 1 step says that they were ever equal.
-fn differ(alloc: Global, size: u32) -> Result<Counts, BenchFault> {
-    let half = doubled(alloc, prop(alloc)?, 18)?;
-    let other = doubled_but_last(alloc, 18)?;
-    let t = app(alloc, Mark::Plain, &half, &half)?;
-    let mut ever = false;
-    for _ in 0..size {
-        let u = app(alloc, Mark::Plain, &half, &other)?;
-        ever |= equal(&t, &u);
-    }
-    Ok(counts_of(&t, u64::from(ever)))
-}
-
-/// `Prop` doubled so many times, but for the last leaf, which is a variable.
-fn doubled_but_last(alloc: Global, size: u32) -> Result<Term, TermFault> {
-    let mut t = prop(alloc)?;
-    let mut last = var(alloc, 0)?;
-    for _ in 0..size {
-        last = app(alloc, Mark::Plain, &t, &last)?;
-        t = app(alloc, Mark::Plain, &t, &t)?;
-    }
-    Ok(last)
+    Ok(counts_of(&lift(alloc, &t, 0, 1)?, Found::Made))
 }
 
 /// Lifts a term with a loose variable at each leaf.
@@ -128,7 +128,7 @@ fn raise(alloc: Global, size: u32) -> Result<Counts, BenchFault> {
     if t.loose() > 1 {
         return Err(BenchFault::Usage);
     }
-    Ok(counts_of(&lift(alloc, &t, 0, 1)?, 0))
+    Ok(counts_of(&lift(alloc, &t, 0, 1)?, Found::Made))
 }
 
 /// Puts a constant for the variable at each leaf.
@@ -138,7 +138,7 @@ fn replace(alloc: Global, size: u32) -> Result<Counts, BenchFault> {
     if t.depth() > 2_000 || value.loose() > 0 {
         return Err(BenchFault::Usage);
     }
-    Ok(counts_of(&subst(alloc, &t, &value)?, 0))
+    Ok(counts_of(&subst(alloc, &t, &value)?, Found::Made))
 }
 
 /// Applies a self-application to itself, for so many steps.
@@ -151,9 +151,9 @@ fn run_on(alloc: Global, size: u32) -> Result<Counts, BenchFault> {
         return Err(BenchFault::Usage);
     }
     match head(alloc, &bodies, &t, u64::from(size)) {
-        Err(ReduceFault::Budget) => Ok(counts_of(&t, u64::from(size))),
+        Err(ReduceFault::Budget) => Ok(counts_of(&t, Found::Steps(u64::from(size)))),
         Err(fault) => Err(BenchFault::Reduce(fault)),
-        Ok(end) => Ok(counts_of(&end.term, end.steps)),
+        Ok(end) => Ok(counts_of(&end.term, Found::Steps(end.steps))),
     }
 }
 
@@ -165,11 +165,11 @@ fn unfold(alloc: Global, size: u32) -> Result<Counts, BenchFault> {
         return Err(BenchFault::Usage);
     }
     let end = head(alloc, &bodies, &t, LIMIT)?;
-    Ok(counts_of(&end.term, end.steps))
+    Ok(counts_of(&end.term, Found::Steps(end.steps)))
 }
 
 /// Each number from 1 below `count` unfolds to the one before it.
-fn chain(alloc: Global, count: u32) -> Result<Bodies, TermFault>
+pub(crate) fn chain(alloc: Global, count: u32) -> Result<Bodies, TermFault>
     ensures { IfOk result (λ bodies. AreClosed bodies) }
 {
     let mut bodies = Bodies::new(alloc);
@@ -192,53 +192,48 @@ fn numeral(alloc: Global, n: u32) -> Result<Term, TermFault> {
 
 /// The normal form of 2 to the power of `size`, of Church numerals.
 fn exponential(alloc: Global, size: u32) -> Result<Counts, BenchFault> {
-    let bodies = chain(alloc, 1)?;
-    let t = app(
-        alloc,
-        Mark::Plain,
-        &numeral(alloc, size)?,
-        &numeral(alloc, 2)?,
-    )?;
-    if t.loose() > 0 {
-        return Err(BenchFault::Usage);
-    }
-    let end = normal(alloc, &bodies, &t, LIMIT)?;
-    Ok(counts_of(&end.term, end.steps))
+    let power = numeral(alloc, size)?;
+    let base = numeral(alloc, 2)?;
+    normalise(alloc, &app(alloc, Mark::Plain, &power, &base)?)
 }
 
 /// Normalises a redex under so many binders.
 fn deep(alloc: Global, size: u32) -> Result<Counts, BenchFault> {
-    let bodies = chain(alloc, 1)?;
-    let identity = lam(alloc, PLAIN, &prop(alloc)?, &var(alloc, 0)?)?;
-    let mut t = app(alloc, Mark::Plain, &identity, &konst(alloc, 7)?)?;
+    let mut t = redex(alloc)?;
     for _ in 0..size {
         t = lam(alloc, PLAIN, &prop(alloc)?, &t)?;
     }
-    if t.loose() > 0 {
-        return Err(BenchFault::Usage);
-    }
-    let end = normal(alloc, &bodies, &t, LIMIT)?;
-    Ok(counts_of(&end.term, end.steps))
+    normalise(alloc, &t)
 }
 
 /// Normalises a redex in the second part of so many pairs, each in the second part of the next.
 fn pairs(alloc: Global, size: u32) -> Result<Counts, BenchFault> {
-    let bodies = chain(alloc, 1)?;
     let other = prop(alloc)?;
-    let identity = lam(alloc, PLAIN, &other, &var(alloc, 0)?)?;
-    let mut t = app(alloc, Mark::Plain, &identity, &konst(alloc, 7)?)?;
+    let mut t = redex(alloc)?;
     for _ in 0..size {
         t = pair(alloc, PLAIN, &other, &other, &other, &t)?;
     }
+    normalise(alloc, &t)
+}
+
+/// A redex that goes to constant 7.
+pub(crate) fn redex(alloc: Global) -> Result<Term, TermFault> {
+    let identity = lam(alloc, PLAIN, &prop(alloc)?, &var(alloc, 0)?)?;
+    app(alloc, Mark::Plain, &identity, &konst(alloc, 7)?)
+}
+
+/// The normal form of a closed term, over no bodies.
+fn normalise(alloc: Global, t: &Term) -> Result<Counts, BenchFault> {
     if t.loose() > 0 {
         return Err(BenchFault::Usage);
     }
-    let end = normal(alloc, &bodies, &t, LIMIT)?;
-    Ok(counts_of(&end.term, end.steps))
+    let bodies = chain(alloc, 1)?;
+    let end = normal(alloc, &bodies, t, LIMIT)?;
+    Ok(counts_of(&end.term, Found::Steps(end.steps)))
 }
 
 /// Measures a chain of so many local definitions, each of which applies the one before it to
-/// itself; 1 step says that the weight passed its limit.
+/// itself.
 fn locals(alloc: Global, size: u32) -> Result<Counts, BenchFault> {
     let twice = app(alloc, Mark::Plain, &var(alloc, 0)?, &var(alloc, 0)?)?;
     let mut t = var(alloc, 0)?;
@@ -247,29 +242,8 @@ fn locals(alloc: Global, size: u32) -> Result<Counts, BenchFault> {
     }
     let t = local(alloc, PLAIN, &prop(alloc)?, &t)?;
     match measure(alloc, &t) {
-        Err(TermFault::TooLarge { .. }) => Ok(counts_of(&t, 1)),
+        Err(TermFault::TooLarge { .. }) => Ok(counts_of(&t, Found::TooHeavy)),
         Err(fault) => Err(BenchFault::Term(fault)),
-        Ok(_) => Ok(counts_of(&t, 0)),
+        Ok(_) => Ok(counts_of(&t, Found::Made)),
     }
-}
-
-/// Compares two spines of so many arguments, which are a constant in the one, and a redex that
-/// goes to it in the other; the steps are the constraints under which they convert.
-fn spines(alloc: Global, size: u32) -> Result<Counts, BenchFault> {
-    let bodies = chain(alloc, 1)?;
-    let identity = lam(alloc, PLAIN, &prop(alloc)?, &var(alloc, 0)?)?;
-    let argument = konst(alloc, 7)?;
-    let redex = app(alloc, Mark::Plain, &identity, &argument)?;
-    let mut left = konst(alloc, 1)?;
-    let mut right = konst(alloc, 1)?;
-    for _ in 0..size {
-        left = app(alloc, Mark::Plain, &left, &argument)?;
-        right = app(alloc, Mark::Plain, &right, &redex)?;
-    }
-    if left.loose() > 0 || right.loose() > 0 {
-        return Err(BenchFault::Usage);
-    }
-    let place = Place { line: 1, column: 1 };
-    let asked = same(alloc, &bodies, &left, &right, LIMIT, place)?;
-    Ok(counts_of(&right, asked.len() as u64))
 }
