@@ -1,4 +1,5 @@
 pub mod Bytes
+pub mod Limits
 pub mod Tokens
 pub mod Commands
 pub mod private

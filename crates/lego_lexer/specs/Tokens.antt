@@ -6,7 +6,7 @@ use Rattle.lego_base.specs.Place.{behind}
 use Rattle.lego_base.specs.declared.place.Place.{Place}
 use Rattle.lego_base.specs.declared.limits.TheConstants.{MAX_NAME}
 use Rattle.lego_lexer.specs.Bytes.{is_digit, begins_name, goes_on_in_name, Gap, BeginsToken, IsOpenComment}
-use Rattle.lego_lexer.specs.declared.limits.TheConstants.{MAX_NUMERAL}
+use Rattle.lego_lexer.specs.Limits.{MAX_NUMERAL}
 use Rattle.lego_lexer.specs.declared.token.Word.{Word}
 use Rattle.lego_lexer.specs.declared.token.Word.TheVariants.{Prop, AnyType, Goal, Intros, Refine, Claim, Next, Assumption, Equiv, Save, KillRef, Undo, Forget, Discharge, Prf, Ctxt, Hnf, Normal, Explicit, Implicit, Module, Import}
 use Rattle.lego_lexer.specs.declared.token.Symbol.{Symbol}
