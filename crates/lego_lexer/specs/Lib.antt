@@ -4,4 +4,5 @@ pub mod Tokens
 pub mod Commands
 pub mod private
 pub mod Cutter
+pub mod Pieces
 pub mod Laws
