@@ -4,16 +4,16 @@ use Rattle.std.proofs.lemmas.Bool.{false≢true}
 use Rattle.std.proofs.lemmas.Bool.Decides.{nat_tests}
 use Rattle.lego_lexer.specs.Bytes.{is_digit, begins_name, goes_on_in_name, begins_comment, is_blank, Gap}
 use Rattle.lego_lexer.specs.Commands.{Unbroken}
-use Rattle.lego_lexer.specs.Tokens.{Lexeme, OfSymbol, Point, Placed, Reads, past, placed_at, token_of, symbol_text, symbols, written_as}
+use Rattle.lego_lexer.specs.Tokens.{Lexeme, OfSymbol, Point, Placed, Reads, point_behind, placed_at, token_of, symbol_text, symbols, written_as}
 use Rattle.lego_lexer.specs.declared.token.Symbol.{Symbol}
 use Rattle.lego_lexer.proofs.TokenLemmas.{Stops, name_longest, number_longest, symbol_longest}
 
 -- the token that stands here, and the point behind it
 abbrev pub here : Point → List ℕ → Lexeme → Placed
-here at text lexeme = placed_at (past at []) text lexeme
+here at text lexeme = placed_at (point_behind at []) text lexeme
 
 abbrev pub after : Point → List ℕ → Point
-after at text = past (past at []) text
+after at text = point_behind (point_behind at []) text
 
 -- a run of bytes stops before a byte that doesn't go on in it
 pub stops_at : (goes_on : ℕ → Bool) (b : ℕ) (bytes : List ℕ) → goes_on b ≡ false → Stops goes_on (b ∷ bytes)

@@ -5,6 +5,7 @@ pub mod Sound
 pub mod Finish
 pub mod Moving
 pub mod Unique
+pub mod Ends
 pub mod Beginnings
 pub mod Refusals
 pub mod ReadOnce

@@ -11,6 +11,7 @@ use Rattle.lego_grammar.proofs.Transitions.{Runs}
 use Rattle.lego_grammar.proofs.Complete.{kept_act, complete_command}
 use Rattle.lego_grammar.proofs.Unique.{fits_zero, same_run, split, same_start, one_nesting}
 use Rattle.lego_grammar.proofs.Beginnings.{map-both}
+use Rattle.lego_grammar.proofs.Ends.{no_longer}
 
 front : {X : Type 0} (j k : ℕ) (xs : List X) → j ≤ k → (ys : List X) × (take k xs ≡ take j xs ++ ys)
 front zero k xs h = (take k xs, refl)
@@ -98,10 +99,22 @@ last_agree xs ys t u e = record { same = λ n a b f g h. go n a b f g (below n h
         let q = ap length e in let k : n < length xs = omega (arith, h, q) in
         some_is (sym f ∙ (slice_get_front xs (t ∷ []) n k ∙ (ap (λ l. slice_get l n) e ∙ (sym (slice_get_front ys (u ∷ []) n h) ∙ g))))
 
+same_items : (tokens : List Item) (as1 bs1 : List Nested) → IsUnexpected tokens (length as1) → IsUnexpected tokens (length bs1)
+    → map item as1 ≡ take (length as1) tokens → map item bs1 ≡ take (length bs1) tokens → map item as1 ≡ map item bs1
+same_items tokens as1 bs1 x x' m m' = m ∙ (ap (λ k. take k tokens) (one_unexpected tokens (length as1) (length bs1) x x') ∙ sym m')
+
 agree : (tokens : List Item) (xs ys : List Nested) → NestedSo tokens xs → NestedSo tokens ys → Agree xs ys
 agree tokens xs ys (NestedSo.read {names} e r) (NestedSo.read {names = names'} e' r') = equal_agree xs ys (one_nesting names names' r r' (e ∙ sym e'))
 agree tokens xs ys (NestedSo.read e r) (NestedSo.unread nested more next x m p q) = absurd (x.behind (read_goes tokens (suc (length nested)) e r))
 agree tokens xs ys (NestedSo.unread nested more next x m p q) (NestedSo.read e r) = absurd (x.behind (read_goes tokens (suc (length nested)) e r))
+agree tokens xs ys (NestedSo.read e r) (NestedSo.behind nested x m q) = absurd (x.behind (read_goes tokens (suc (length nested)) e r))
+agree tokens xs ys (NestedSo.behind nested x m q) (NestedSo.read e r) = absurd (x.behind (read_goes tokens (suc (length nested)) e r))
+agree tokens xs ys (NestedSo.behind {names} as1 x m q) (NestedSo.behind {names = names'} bs1 x' m' q') =
+    equal_agree as1 bs1 (one_nesting names names' q q' (same_items tokens as1 bs1 x x' m m'))
+agree tokens xs ys (NestedSo.behind {names} as1 x m q) (NestedSo.unread {names = names'} bs1 more next x' m' p q') =
+    absurd (no_longer names names' as1 bs1 next more q q' (same_items tokens as1 bs1 x x' m m'))
+agree tokens xs ys (NestedSo.unread {names} as1 more next x m p q) (NestedSo.behind {names = names'} bs1 x' m' q') =
+    absurd (no_longer names' names bs1 as1 next more q' q (same_items tokens bs1 as1 x' x m' m))
 agree tokens xs ys (NestedSo.unread {names} as1 more next {c} x m p q) (NestedSo.unread {names = names'} bs1 more' next' {c = c'} x' m' p' q') =
     let n : length as1 ≡ length bs1 = one_unexpected tokens (length as1) (length bs1) x x' in
     let items : map item as1 ≡ map item bs1 = m ∙ (ap (λ k. take k tokens) n ∙ sym m') in

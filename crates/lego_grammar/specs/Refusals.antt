@@ -35,7 +35,8 @@ pub data Prevails (tokens : List Item) : WrittenAct → Type 0 where
   other : {act : WrittenAct} → (IsContext act → ⊥) → (EndsInBinding tokens → ⊥) → Prevails tokens act
 
 -- How a command's tokens are nested: as the command that they are; where they are none, those before the first token
--- without a reading as in a command that begins with them, and that token as deep as one that may stand there.
+-- without a reading as in a command that begins with them, and that token as deep as one that may stand there;
+-- behind a whole command, only its own tokens are nested.
 pub data NestedSo (tokens : List Item) : List Nested → Type 0 where
   read : {names : Names} {nested : List Nested} {c : WrittenCommand}
       → map item nested ≡ tokens → ReadsCommand names nested c → NestedSo tokens nested
@@ -43,6 +44,9 @@ pub data NestedSo (tokens : List Item) : List Nested → Type 0 where
       → IsUnexpected tokens (length nested) → map item nested ≡ take (length nested) tokens
       → Prevails (take (length nested) tokens) c.act → ReadsCommand names (nested ++ next ∷ more) c
       → NestedSo tokens (nested ++ next ∷ [])
+  behind : {names : Names} (nested : List Nested) {c : WrittenCommand}
+      → IsUnexpected tokens (length nested) → map item nested ≡ take (length nested) tokens → ReadsCommand names nested c
+      → NestedSo tokens nested
 
 -- token n is the first of nesting 501
 pub record IsTooDeep (tokens : List Item) (n : ℕ) : Type 0 where

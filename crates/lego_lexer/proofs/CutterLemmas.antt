@@ -8,7 +8,7 @@ use mathlib.Core.Bool.{true≢false}
 use Rattle.lego_lexer.specs.Bytes.{is_blank, begins_comment, behind_comments, delimiter, Gap, BeginsToken, IsComment, IsOpenComment}
 use Rattle.lego_lexer.specs.Commands.{Unbroken, First, Begins, IsCut}
 use Rattle.lego_lexer.specs.private.StartBefore.{start_before}
-use Rattle.lego_lexer.specs.Cutter.{Apart, IsFront, Passed, EndsHalf, EndsOutside, EndsInside, Stands, HasStarted}
+use Rattle.lego_lexer.specs.Cutter.{Apart, IsFront, Passed, BeforeHalf, EndsHalf, EndsOutside, EndsInside, Stands, HasStarted}
 use Rattle.lego_lexer.specs.declared.cutter.Cutter.{Cutter}
 use Rattle.lego_lexer.specs.declared.token.Cut.TheVariants as Cut
 use Rattle.lego_lexer.specs.declared.comment.Delimiter.TheVariants.{Opens, Closes, Neither}
@@ -139,6 +139,16 @@ module _ {from depth last : ℕ} {start : Option ℕ} {comment : ℕ} {bytes : L
   pub inside_passes : Neither ≡ delimiter last b → EndsInside from depth b start comment (bytes ++ b ∷ [])
   inside_passes d = inside_byte e b depth b (λ more. sym (passed depth last b more some d))
 
+before_itself : (n : ℕ) → start_before (Some n) n ≡ None
+before_itself n = let test : nat_lt n n ≡ false = grind (arith, nat_tests) in rw test refl
+
+before_later : (start comment : ℕ) → start < comment → start_before (Some start) comment ≡ Some start
+before_later start comment h = let test : nat_lt start comment ≡ true = grind (arith, nat_tests) in rw test refl
+
+before_half : {from comment : ℕ} {start : Option ℕ} {front : List ℕ} → BeforeHalf from start comment front → Passed from 40 (start_before start comment) front
+before_half {from} {comment} {front = front} (BeforeHalf.earlier {start = start} h p) = subst (λ s. Passed from 40 s front) (sym (before_later start comment h)) p
+before_half {from} {comment} {front = front} (BeforeHalf.here g) = subst (λ s. Passed from 40 s front) (sym (before_itself comment)) (Passed.gap g)
+
 -- the `*` of a `(*`
 pub comment_opens : {from last : ℕ} {start : Option ℕ} {comment : ℕ} {bytes : List ℕ} → EndsOutside from last start comment bytes → last ≡ 40
     → EndsInside from 1 0 (start_before start comment) comment (bytes ++ 42 ∷ [])
@@ -149,7 +159,7 @@ comment_opens o h =
       text = 40 ∷ 42 ∷ [];
       is = ap (λ xs. xs ++ 42 ∷ []) half.is ∙ append_assoc half.front (40 ∷ []) (42 ∷ []);
       there = half.there;
-      before = half.before;
+      before = before_half half.before;
       begins = refl;
       inside = λ more. zero_first 1 more (omega arith);
     }
@@ -162,12 +172,6 @@ blank_passes b c o h = record { passed = go o.passed refl; half = λ e. absurd (
     go : {from last : ℕ} {start : Option ℕ} {bytes : List ℕ} → Passed from last start bytes → start ≡ None → Passed from b None (bytes ++ b ∷ [])
     go (Passed.gap g) e = Passed.gap (gap_join g (Gap.blank h Gap.none))
     go (Passed.command g f) e = absurd (cc)
-
-before_itself : (n : ℕ) → start_before (Some n) n ≡ None
-before_itself n = let test : nat_lt n n ≡ false = grind (arith, nat_tests) in rw test refl
-
-before_later : (start comment : ℕ) → start < comment → start_before (Some start) comment ≡ Some start
-before_later start comment h = let test : nat_lt start comment ≡ true = grind (arith, nat_tests) in rw test refl
 
 -- the first byte of a command
 pub first_passes : {from last : ℕ} {comment : ℕ} {bytes : List ℕ} (b index : ℕ) → EndsOutside from last None comment bytes → is_blank b ≡ false → b ≢ 59 → index ≡ from + length bytes
@@ -186,7 +190,7 @@ first_passes {from} {bytes = bytes} b index o h other there = record { passed = 
       front = bytes;
       is = ap (λ x. bytes ++ x ∷ []) e;
       there = there;
-      before = subst (λ s. Passed from 40 s bytes) (sym (before_itself index)) (Passed.gap (gap_of o.passed refl));
+      before = BeforeHalf.here (gap_of o.passed refl);
     }
 
 started_inside : {from last start : ℕ} {s : Option ℕ} {bytes : List ℕ} → Passed from last s bytes → s ≡ Some start → start < from + length bytes
@@ -213,7 +217,7 @@ later_passes {from} {start = start} {bytes = bytes} b index o other apart there 
           front = bytes;
           is = ap (λ x. bytes ++ x ∷ []) e;
           there = there;
-          before = subst (λ s. Passed from 40 s bytes) (sym (before_later start index before)) (passed_weaker o.passed);
+          before = BeforeHalf.earlier before (passed_weaker o.passed);
         }
 
 -- a byte that is no blank before a command

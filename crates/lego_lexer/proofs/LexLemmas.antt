@@ -7,7 +7,7 @@ use Rattle.std.proofs.lemmas.List.Folds.{drop_split}
 use Rattle.lego_base.specs.Place.{behind}
 use Rattle.lego_base.specs.declared.place.Place.{Place}
 use Rattle.lego_lexer.specs.Bytes.{Gap, BeginsToken}
-use Rattle.lego_lexer.specs.Tokens.{Lexeme, Point, Placed, Reads, Refused, FaultAt, WithinLimits, AllWithinLimits, placed, placed_at, past, start}
+use Rattle.lego_lexer.specs.Tokens.{Lexeme, Point, Placed, Reads, Refused, FaultAt, WithinLimits, AllWithinLimits, placed, placed_at, point_behind, start}
 use Rattle.lego_lexer.specs.private.Scanned.{IsToken, IsTokenAt, IsFirst, IsNext, IsFault, point}
 use Rattle.lego_lexer.specs.declared.token.Token.{Token}
 use Rattle.lego_lexer.specs.declared.token.LexFault.{LexFault}
@@ -47,16 +47,16 @@ first_is_read bytes from at next after within gap begins place t =
     let ahead : at.index + length text ≡ next.behind.index = slice_length bytes at.index next.behind.index on t.within in
     let first : from.index + length blanks ≡ next.token.from = here ∙ sym t.from in
     let last : from.index + length blanks + length text ≡ next.behind.index = ap (λ n. n + length text) here ∙ ahead in
-    let token : placed_at (past (point from) blanks) text (placed bytes next.token).lexeme ≡ placed bytes next.token =
+    let token : placed_at (point_behind (point from) blanks) text (placed bytes next.token).lexeme ≡ placed bytes next.token =
     placed_equal (placed bytes next.token).lexeme _ _ _ _ _ _ (sym place ∙ sym t.place) first (last ∙ sym t.to) in
-    let end : past (past (point from) blanks) text ≡ point next.behind =
+    let end : point_behind (point_behind (point from) blanks) text ≡ point next.behind =
     point_equal _ _ _ _ (ap (λ p. behind p text) (sym place) ∙ sym t.behind_place) last in
-    let read : Reads (point from) (blanks ++ text ++ rest) (placed_at (past (point from) blanks) text (placed bytes next.token).lexeme ∷ []) (past (past (point from) blanks) text) rest =
+    let read : Reads (point from) (blanks ++ text ++ rest) (placed_at (point_behind (point from) blanks) text (placed bytes next.token).lexeme ∷ []) (point_behind (point_behind (point from) blanks) text) rest =
     Reads.token gap (subst BeginsToken tail begins) t.longest Reads.none in
     record {
       reads = subst (λ xs. Reads (point from) xs (placed bytes next.token ∷ []) (point next.behind) rest) all
           (subst (λ x. Reads (point from) (blanks ++ text ++ rest) (x ∷ []) (point next.behind) rest) token
-          (subst (λ e. Reads (point from) (blanks ++ text ++ rest) (placed_at (past (point from) blanks) text (placed bytes next.token).lexeme ∷ []) e rest) end read));
+          (subst (λ e. Reads (point from) (blanks ++ text ++ rest) (placed_at (point_behind (point from) blanks) text (placed bytes next.token).lexeme ∷ []) e rest) end read));
       small = t.small;
       after = omega (arith, t.after);
       within = t.within;

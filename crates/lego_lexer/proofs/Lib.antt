@@ -16,4 +16,5 @@ pub mod Fronts
 pub mod Started
 pub mod CutsExist
 pub mod ScriptsGoOn
+pub mod JoinedPieces
 mod Sanity

@@ -6,7 +6,7 @@ use Rattle.lego_base.specs.Place.{behind}
 use Rattle.lego_base.specs.declared.place.Place.{Place}
 use Rattle.lego_lexer.specs.Commands.{First, Begins, cut_of, CommandText, Ending, Whole, Unended, OpenComment, Cuts}
 use Rattle.lego_lexer.specs.Laws.{BeginsWith, GoesOn, ScriptsGoOn}
-use Rattle.lego_lexer.specs.declared.limits.TheConstants.{MAX_COMMAND}
+use Rattle.lego_lexer.specs.Limits.{MAX_COMMAND}
 use Rattle.lego_lexer.specs.declared.token.Cut.TheVariants as Cut
 use Rattle.lego_lexer.proofs.UniqueCuts.{same_first}
 use Rattle.lego_lexer.proofs.Fronts.{the_command}

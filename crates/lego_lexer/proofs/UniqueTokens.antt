@@ -5,7 +5,7 @@ use mathlib.Core.Bool.{true≢false}
 use Rattle.lego_base.specs.Place.{behind}
 use Rattle.lego_base.specs.declared.place.Place.{Place}
 use Rattle.lego_lexer.specs.Bytes.{begins_comment, Gap, IsOpenComment, BeginsToken}
-use Rattle.lego_lexer.specs.Tokens.{Lexeme, Name, Number, token_of, IsLongest, NoToken, Point, Placed, Reads, WithinLimits, AllWithinLimits, FaultAt, past, placed_at}
+use Rattle.lego_lexer.specs.Tokens.{Lexeme, Name, Number, token_of, IsLongest, NoToken, Point, Placed, Reads, WithinLimits, AllWithinLimits, FaultAt, point_behind, placed_at}
 use Rattle.lego_lexer.specs.Laws.{TokensAreUnique, FaultsAreUnique, FaultsExcludeTokens}
 use Rattle.lego_lexer.specs.declared.token.LexFault.{LexFault}
 use Rattle.lego_lexer.specs.declared.token.LexFault.TheVariants.{OpenComment, LongName, BigLevel}
@@ -55,8 +55,8 @@ no_gap {g} {r} p q t b e =
     let s = same_gap q p [] t due_end (due_token t b) (append-nil r ∙ e) in
     begins_nothing (subst BeginsToken (sym s.1) b)
 
-past_same : (a b : Point) (g h : List ℕ) → a ≡ b → g ≡ h → past a g ≡ past b h
-past_same a b g h e f = rw (e, f) refl
+points_same : (a b : Point) (g h : List ℕ) → a ≡ b → g ≡ h → point_behind a g ≡ point_behind b h
+points_same a b g h e f = rw (e, f) refl
 
 placed_same : (a b : Point) (t u : List ℕ) (l k : Lexeme) (ts us : List Placed) → a ≡ b → t ≡ u → l ≡ k → ts ≡ us → placed_at a t l ∷ ts ≡ placed_at b u k ∷ us
 placed_same a b t u l k ts us e f g h = rw (e, f, g, h) refl
@@ -68,9 +68,9 @@ tokens_same (Reads.token {gap = g} {text = t} {bytes = x} gap begins longest mor
 tokens_same (Reads.token {at = a} {gap = g} {text = t} {bytes = x} {lexeme = l} {tokens = ts} gap begins longest more) (Reads.token {at = b} {gap = i} {text = u} {bytes = y} {lexeme = m} {tokens = us} gap' begins' longest' more') p q h k =
     let gaps = same_gap gap gap' (t ++ x) (u ++ y) (due_token (t ++ x) begins) (due_token (u ++ y) begins') (sym (append_assoc g t x) ∙ (k ∙ append_assoc i u y)) in
     let texts = same_text_longest t u x y l m longest longest' gaps.1 in
-    let here : past a g ≡ past b i = past_same a b g i h gaps.0 in
-    let rest : ts ≡ us = tokens_same more more' p q (past_same (past a g) (past b i) t u here texts.0) texts.1 in
-    placed_same (past a g) (past b i) t u l m ts us here texts.0 texts.2 rest
+    let here : point_behind a g ≡ point_behind b i = points_same a b g i h gaps.0 in
+    let rest : ts ≡ us = tokens_same more more' p q (points_same (point_behind a g) (point_behind b i) t u here texts.0) texts.1 in
+    placed_same (point_behind a g) (point_behind b i) t u l m ts us here texts.0 texts.2 rest
 
 pub tokens_unique : TokensAreUnique
 tokens_unique place bytes one other p q = tokens_same p.reads q.reads p.blank q.blank refl refl
@@ -162,14 +162,14 @@ outcome_same : {a b e f : Point} {xs ys r s : List ℕ} {ts us : List Placed} {o
     → Reads a xs ts e r → AllWithinLimits ts → Ends e.place r o → Reads b ys us f s → AllWithinLimits us → Ends f.place s i → a ≡ b → xs ≡ ys → o ≡ i
 outcome_same Reads.none w p Reads.none v q h k = ends_same p q (ap (λ x. x.place) h) k
 outcome_same Reads.none w p (Reads.token {at = b} {gap = g} {text = t} {bytes = y} {lexeme = l} {tokens = us} gap begins longest more) v q h k =
-    absurd (ends_no_token t y l p gap begins longest (first_within (placed_at (past b g) t l) us v) (k ∙ append_assoc g t y))
+    absurd (ends_no_token t y l p gap begins longest (first_within (placed_at (point_behind b g) t l) us v) (k ∙ append_assoc g t y))
 outcome_same (Reads.token {at = a} {gap = g} {text = t} {bytes = x} {lexeme = l} {tokens = ts} gap begins longest more) w p Reads.none v q h k =
-    absurd (ends_no_token t x l q gap begins longest (first_within (placed_at (past a g) t l) ts w) (sym k ∙ append_assoc g t x))
+    absurd (ends_no_token t x l q gap begins longest (first_within (placed_at (point_behind a g) t l) ts w) (sym k ∙ append_assoc g t x))
 outcome_same (Reads.token {at = a} {gap = g} {text = t} {bytes = x} {lexeme = l} {tokens = ts} gap begins longest more) w p (Reads.token {at = b} {gap = j} {text = u} {bytes = y} {lexeme = m} {tokens = us} gap' begins' longest' more') v q h k =
     let gaps = same_gap gap gap' (t ++ x) (u ++ y) (due_token (t ++ x) begins) (due_token (u ++ y) begins') (sym (append_assoc g t x) ∙ (k ∙ append_assoc j u y)) in
     let texts = same_text_longest t u x y l m longest longest' gaps.1 in
-    let here : past a g ≡ past b j = past_same a b g j h gaps.0 in
-    outcome_same more (rest_within (placed_at (past a g) t l) ts w) p more' (rest_within (placed_at (past b j) u m) us v) q (past_same (past a g) (past b j) t u here texts.0) texts.1
+    let here : point_behind a g ≡ point_behind b j = points_same a b g j h gaps.0 in
+    outcome_same more (rest_within (placed_at (point_behind a g) t l) ts w) p more' (rest_within (placed_at (point_behind b j) u m) us v) q (points_same (point_behind a g) (point_behind b j) t u here texts.0) texts.1
 
 pub faults_unique : FaultsAreUnique
 faults_unique place bytes one other p q =

@@ -3,7 +3,7 @@ use Rattle.std.specs.Prelude.{◌≡◌, ◌≢◌, ℕ, ◌+◌, List, [], ◌�
 use Rattle.lego_base.specs.Place.{behind}
 use Rattle.lego_base.specs.declared.place.Place.{Place}
 use Rattle.lego_lexer.specs.Bytes.{Gap, IsComment, IsOpenComment, BeginsToken, begins_comment}
-use Rattle.lego_lexer.specs.declared.limits.TheConstants.{MAX_COMMAND}
+use Rattle.lego_lexer.specs.Limits.{MAX_COMMAND}
 use Rattle.lego_lexer.specs.declared.token.Cut as Code
 use Rattle.lego_lexer.specs.declared.token.Cut.TheVariants as Cut
 

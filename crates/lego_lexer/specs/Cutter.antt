@@ -1,7 +1,6 @@
 -- Behind which bytes a cutter stands.
 use Rattle.std.specs.Prelude.{◌≡◌, ℕ, ◌+◌, ◌≤◌, ◌<◌, List, [], ◌∷◌, ◌++◌, IsFalse, true, Option, Some, None, nat_eq, length, take, drop, get_or}
 use Rattle.lego_lexer.specs.Bytes.{Gap, BeginsToken, IsOpenComment, begins_comment, behind_comments}
-use Rattle.lego_lexer.specs.private.StartBefore.{start_before}
 use Rattle.lego_lexer.specs.Commands.{Unbroken, First, Begins, cut_of}
 use Rattle.lego_lexer.specs.declared.cutter.Cutter.{Cutter}
 use Rattle.lego_lexer.specs.declared.cutter.Fed as Feeding
@@ -23,12 +22,17 @@ pub data Passed (from last : ℕ) : Option ℕ → List ℕ → Type 0 where
   gap : {gap : List ℕ} → Gap gap → Passed from last None gap
   command : {gap body : List ℕ} → Gap gap → IsFront last body → Passed from last (Some (from + length gap)) (gap ++ body)
 
+-- a command has begun, and a `(` at an index stands behind these bytes: it began before this `(`, or begins with it
+pub data BeforeHalf (from : ℕ) : Option ℕ → ℕ → List ℕ → Type 0 where
+  earlier : {start comment : ℕ} {front : List ℕ} → start < comment → Passed from 40 (Some start) front → BeforeHalf from (Some start) comment front
+  here : {comment : ℕ} {front : List ℕ} → Gap front → BeforeHalf from (Some comment) comment front
+
 -- the bytes end with a `(` at this index, which may begin a comment
 pub record EndsHalf (from : ℕ) (start : Option ℕ) (comment : ℕ) (bytes : List ℕ) : Type 0 where
   pub front : List ℕ
   pub is : bytes ≡ front ++ 40 ∷ []
   pub there : comment ≡ from + length front
-  pub before : Passed from 40 (start_before start comment) front
+  pub before : BeforeHalf from start comment front
 
 -- the bytes end outside comments
 pub record EndsOutside (from last : ℕ) (start : Option ℕ) (comment : ℕ) (bytes : List ℕ) : Type 0 where

@@ -1,9 +1,13 @@
 -- Laws of the definitions: what the bytes determine.
 use Rattle.std.specs.Prelude.{◌≡◌, ℕ, List, [], ◌∷◌, ◌++◌, take, drop, slice_range}
+use Rattle.std.specs.List.{concat}
 use Rattle.lego_base.specs.Place.{behind}
 use Rattle.lego_base.specs.declared.place.Place.{Place}
 use Rattle.lego_lexer.specs.Tokens.{Placed, Tokens, Refused, AllWithinLimits}
 use Rattle.lego_lexer.specs.Commands.{IsCut, CommandText, Ending, Whole, Unended, OpenComment, Cuts, HasEnded}
+use Rattle.lego_lexer.specs.Cutter.{Ends}
+use Rattle.lego_lexer.specs.Pieces.{Answers, AllCuts}
+use Rattle.lego_lexer.specs.declared.cutter.Cutter.{Cutter}
 use Rattle.lego_lexer.specs.declared.token.LexFault.{LexFault}
 use Rattle.lego_lexer.specs.declared.token.Cut as Code
 use Rattle.lego_lexer.specs.declared.token.Cut.TheVariants as Cut
@@ -65,3 +69,11 @@ FrontsStay =
     (place : Place) (bytes more : List ℕ) (commands all : List CommandText) (ending : Ending)
     → HasEnded place bytes commands → Cuts place (bytes ++ more) all ending
     → (others : List CommandText) × (all ≡ commands ++ others) × Cuts (behind place bytes) more others ending
+
+-- the cut of a command that has ended is what stands first, whatever bytes follow
+abbrev pub EndsStay : Type 0
+EndsStay = (cutter : Cutter) (from : ℕ) (bytes more : List ℕ) (cut : Code.Cut) → Ends cutter from bytes cut → IsCut from (bytes ++ more) cut
+
+-- the cuts of a cutter that is fed pieces are those of the joined bytes
+abbrev pub PiecesAreJoined : Type 0
+PiecesAreJoined = (from : ℕ) (pieces : List (List ℕ)) (cuts : List Code.Cut) → Answers from [] pieces cuts → AllCuts from (concat pieces) cuts

@@ -6,7 +6,7 @@ use Rattle.lego_base.specs.Place.{behind}
 use Rattle.lego_base.specs.declared.place.Place.{Place}
 use Rattle.lego_base.specs.declared.limits.TheConstants.{MAX_NAME}
 use Rattle.lego_lexer.specs.Bytes.{is_digit, begins_name, goes_on_in_name, Gap, BeginsToken, IsOpenComment}
-use Rattle.lego_lexer.specs.declared.limits.TheConstants.{MAX_NUMERAL}
+use Rattle.lego_lexer.specs.Limits.{MAX_NUMERAL}
 use Rattle.lego_lexer.specs.declared.token.Word.{Word}
 use Rattle.lego_lexer.specs.declared.token.Word.TheVariants.{Prop, AnyType, Goal, Intros, Refine, Claim, Next, Assumption, Equiv, Save, KillRef, Undo, Forget, Discharge, Prf, Ctxt, Hnf, Normal, Explicit, Implicit, Module, Import}
 use Rattle.lego_lexer.specs.declared.token.Symbol.{Symbol}
@@ -125,8 +125,11 @@ pub record Point : Type 0 where
 abbrev pub start : Place → Point
 start place = record { place = place; before = 0 }
 
+abbrev pub point_behind : Point → List ℕ → Point
+point_behind at bytes = record { place = behind at.place bytes; before = at.before + length bytes }
+
 abbrev pub past : Point → List ℕ → Point
-past at bytes = record { place = behind at.place bytes; before = at.before + length bytes }
+past = point_behind
 
 -- a token, the place of its first byte, and the range of its bytes
 pub record Placed : Type 0 where
@@ -142,8 +145,8 @@ placed_at at text lexeme = record { lexeme = lexeme; place = at.place; from = at
 pub data Reads : Point → List ℕ → List Placed → Point → List ℕ → Type 0 where
   none : {at : Point} {bytes : List ℕ} → Reads at bytes [] at bytes
   token : {at end : Point} {gap text bytes rest : List ℕ} {lexeme : Lexeme} {tokens : List Placed}
-      → Gap gap → BeginsToken (text ++ bytes) → IsLongest text bytes lexeme → Reads (past (past at gap) text) bytes tokens end rest
-      → Reads at (gap ++ text ++ bytes) (placed_at (past at gap) text lexeme ∷ tokens) end rest
+      → Gap gap → BeginsToken (text ++ bytes) → IsLongest text bytes lexeme → Reads (point_behind (point_behind at gap) text) bytes tokens end rest
+      → Reads at (gap ++ text ++ bytes) (placed_at (point_behind at gap) text lexeme ∷ tokens) end rest
 
 -- the tokens of bytes that begin at a place: only a gap is behind the last one
 pub record Tokens (place : Place) (bytes : List ℕ) (tokens : List Placed) : Type 0 where

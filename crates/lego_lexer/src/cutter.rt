@@ -47,7 +47,7 @@ impl Cutter {
     }
 
     /// A cutter whose first byte has an index.
-    pub fn at(index: usize) -> Cutter
+    pub(crate) fn at(index: usize) -> Cutter
         ensures fed { result.fed ≡ index }
         ensures stands { Stands result index [] }
     {
@@ -60,8 +60,8 @@ impl Cutter {
         }
     }
 
-    /// Takes the next bytes, up to the `;` that ends a command, or all.
-    /// At most 16,777,216 bytes may be fed to a cutter.
+    /// Takes the next bytes, up to the `;` that ends a command, or all. Behind `Ended` the caller feeds
+    /// `piece[used..]` next. At most 16,777,216 bytes may be fed to a cutter.
     pub fn feed(&mut self, piece: &[u8]) -> Fed
         requires { self.old.fed + length piece.now ≤ MAX_SCRIPT }
         ensures { (from : ℕ) (bytes : List ℕ) → Stands self.old from bytes → IsFed self.new from bytes piece.now result }
@@ -69,8 +69,8 @@ impl Cutter {
         self.scan(piece)
     }
 
-    /// Takes the next bytes, up to the `;` that ends a command, or all.
-    pub fn scan(&mut self, piece: &[u8]) -> Fed
+    /// What `feed` does, for bytes of any number: those of `cut` may begin at any index.
+    pub(crate) fn scan(&mut self, piece: &[u8]) -> Fed
         requires { self.old.fed + length piece.now ≤ usize.MAX }
         ensures { (from : ℕ) (bytes : List ℕ) → Stands self.old from bytes → IsFed self.new from bytes piece.now result }
     {

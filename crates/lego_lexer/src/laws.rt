@@ -1,5 +1,5 @@
 //! Laws of the definitions, as contracts of functions that do nothing.
-ghost use Rattle.lego_lexer.specs.Laws.{TokensAreUnique, FaultsAreUnique, FaultsExcludeTokens, CutsAreUnique, ScriptsAreUnique, ScriptsAreCut, ScriptsGoOn, FrontsStay};
+ghost use Rattle.lego_lexer.specs.Laws.{TokensAreUnique, FaultsAreUnique, FaultsExcludeTokens, CutsAreUnique, ScriptsAreUnique, ScriptsAreCut, ScriptsGoOn, FrontsStay, EndsStay, PiecesAreJoined};
 
 /// Bytes at a place have at most one list of tokens, and at most one first fault, and not both
 /// tokens within the limits and a fault.
@@ -21,4 +21,11 @@ pub fn scripts_are_cut()
     ensures some { ScriptsAreCut }
     ensures on { ScriptsGoOn }
     ensures fronts { FrontsStay }
+{}
+
+/// The edges of pieces don't matter: a command that has ended for a cutter is what `cut` answers
+/// for these and any further bytes, and the cuts of pieces are those of the joined bytes.
+pub fn pieces_are_joined()
+    ensures stay { EndsStay }
+    ensures joined { PiecesAreJoined }
 {}

@@ -13,7 +13,7 @@ mod tokens;
 
 pub use commands::cut;
 pub use cutter::{Cutter, Fed};
-pub use laws::{cuts_are_unique, scripts_are_cut, tokens_are_unique};
+pub use laws::{cuts_are_unique, pieces_are_joined, scripts_are_cut, tokens_are_unique};
 pub use limits::{MAX_COMMAND, MAX_NUMERAL};
 pub use token::{Cut, LexFault, Symbol, Token, TokenKind, Word};
 pub use tokens::lex;

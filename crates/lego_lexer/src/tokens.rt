@@ -13,7 +13,7 @@ use std::alloc::Global;
 
 /// The tokens of bytes that begin at a place, each the longest, with their exact places.
 /// The first fault refuses all: a byte that begins no token, a comment without an end, a name of
-/// more than 255 bytes, a numeral above 1,000,000. The time is linear in the bytes.
+/// more than 255 bytes, a numeral above 1,000,000.
 pub fn lex(alloc: Global, bytes: &[u8], place: Place) -> Result<Vec<Token>, LexFault>
     requires line { place.line ≤ MAX_PLACE }
     requires column { place.column ≤ MAX_PLACE }

@@ -5,10 +5,11 @@
 --   only the scan of contexts came to n: `context_alone`; only the other: `other_alone`;
 --   both, by the mode of the scan of contexts: inside a binding `context_bound`, `Between []` `context_nothing`,
 --   `Between (b :: bs)` `other_behind`, `Done` never, by `not_both`.
--- Then, of the scan that prevails: in `Done` at its stop, or never too deep up to token n, `refuse_unread`; else `refuse_deep`.
+-- Then, of the scan that prevails: never too deep up to token n, `refuse_unread`; else `refuse_deep`.
 use Rattle.std.proofs.Common.{◌≡◌, ◌⊎◌, inl, inr, ℕ, zero, suc, ◌≤◌, ◌<◌, List, [], ◌∷◌, ◌++◌, false, Some, slice_get, map, take, drop, length, refl, sym, ap, ◌∙◌, subst, append_assoc, arith, length-append}
 use lib.ListN.{take-append-drop}
 use Rattle.std.specs.Prelude.{All}
+use Rattle.std.proofs.lemmas.Bool.{cases_lt}
 use Rattle.std.proofs.lemmas.Option.{slice_get_within}
 use Rattle.lego_grammar.specs.Written.{WrittenAct, WrittenCommand}
 use Rattle.lego_grammar.specs.Grammar.{Names, Nested, Item, item, ReadsCommand, Parses}
@@ -17,14 +18,15 @@ use Rattle.lego_parser.specs.Parsing.{ParsesTo, IsNoCommand}
 use Rattle.lego_parser.specs.declared.fault.ParseFault.TheVariants as Fault
 use Rattle.lego_grammar.specs.private.Machine.{Frame, Mode, Done, State, state, level}
 use Rattle.lego_grammar.specs.private.Runs.{goes, start_of}
-use Rattle.lego_parser.specs.private.Scanning.{Begin, Prevailing, Shallow}
+use Rattle.lego_parser.specs.private.Scanning.{Begin, HasEnded, Prevailing, Shallow}
 use Rattle.lego_grammar.proofs.Transitions.{Runs, runs_on}
 use Rattle.lego_grammar.proofs.Complete.{kept_act, complete_command}
-use Rattle.lego_grammar.proofs.Unique.{split, one_nesting}
+use Rattle.lego_grammar.proofs.Unique.{fits_zero, same_run, one_nesting}
 use Rattle.lego_grammar.proofs.Refusals.{one_unexpected}
-use Rattle.lego_grammar.proofs.Beginnings.{gone, map-both}
+use Rattle.lego_grammar.proofs.Beginnings.{map-both}
+use Rattle.lego_grammar.proofs.Ends.{no_longer}
 use Rattle.lego_parser.proofs.Depths.{Entry, the, deep_at, low_at, all_low}
-use Rattle.lego_parser.proofs.Scans.{finished, no_move}
+use Rattle.lego_parser.proofs.Scans.{Finished, finished, no_move}
 
 -- A start is within the limit.
 entry : {m : Mode} → Begin m → Entry m []
@@ -157,21 +159,74 @@ unread_too_deep tokens n i m {st} {s} p on l h g deep sh =
       first = λ j t k q. d.first j t k (sym (seen j (omega (arith, k, h))) ∙ q);
     }
 
+-- the frames of a command that has ended
+stays : {names : Names} {m m' : Mode} {fs gs : List Frame} {ts : List Nested} → Runs names false m fs ts m' gs → ts ≡ [] → fs ≡ gs
+stays Runs.stay e = refl
+stays (Runs.go f x r) e = cc
+
+ended_level : {is : List Item} {m : Mode} {st : State} {d : WrittenAct} → Finished is m st → st.mode ≡ Done d → level st ≡ 0
+ended_level {is} {m} {st} {d} f e =
+    let command = subst (λ k. Runs f.names false k [] (f.nested ++ f.rest) (Done (kept_act false f.command.act)) []) f.start (complete_command f.names false f.reads) in
+    let states = (same_run f.names f.names false (λ x n n' k l. fits_zero f.names x k ∙ sym (fits_zero f.names x l)) (runs_on f.first f.behind) command refl).1 in
+    let frames : st.frames ≡ [] = stays f.behind (none_behind f.behind e) ∙ ap (λ (s : State). s.frames) states in
+    (λ z. level (state (e z) (frames z)))
+
+-- BEHIND THE END, TOO DEEP. The code hands: the scan that prevails had ended in `Done` where it stopped;
+-- i is at most n, and before token i, for the first time, that scan's state was more than 500 levels deep.
+pub behind_too_deep : (tokens : List Item) (n i : ℕ) (m : Mode) {st s : State} (d : WrittenAct) → Prevailing tokens n m st → st.mode ≡ Done d → n < length tokens → i ≤ n
+    → goes (take i tokens) (Some (state m [])) ≡ Some s → 500 < level s → Shallow m [] tokens i → IsTooDeep tokens i
+behind_too_deep tokens n i m {st} {s} d p e l h g deep sh =
+    let f = finished (take n tokens) p.begin p.there in
+    let whole : f.nested ++ f.rest ≡ f.nested = append_nil f.nested f.rest (none_behind f.behind e) in
+    let reads : ReadsCommand f.names f.nested f.command = subst (λ ts. ReadsCommand f.names ts f.command) whole f.reads in
+    let size : length f.nested ≡ n = count f.nested n tokens f.same (omega (arith, l)) in
+    let sizes : length (f.nested ++ f.rest) ≡ n = ap (λ ts. length ts) whole ∙ size in
+    let before : i < n = earlier (ended_level f e) (cases_lt i n) in
+    let at = deep_at f.names i (runs_on f.first f.behind) (entry p.begin) (omega (arith, before, sizes))
+    (ap (λ is. goes is (Some (state m []))) (same_fronts tokens n f.nested f.rest f.same (omega (arith, l)) i h) ∙ g) deep
+    (as_shallow tokens n i f.nested f.rest f.same (omega (arith, l)) (omega (arith, h)) sh) in
+    record {
+      nested = f.nested ++ f.rest;
+      so = subst (λ ts. NestedSo tokens ts) (sym whole)
+          (NestedSo.behind {names = f.names} f.nested (subst (λ k. IsUnexpected tokens k) (sym size) p.unexpected) (f.same ∙ ap (λ k. take k tokens) (sym size)) reads);
+      token = at.token;
+      there = at.there;
+      deep = at.deep;
+      first = at.first;
+    }
+  where
+    earlier : level st ≡ 0 → (i < n) ⊎ (n ≤ i) → i < n
+    earlier low (inl q) = q
+    earlier low (inr q) =
+        let one : i ≡ n = omega (arith, h, q) in
+        let same : s ≡ st = the (sym g ∙ (ap (λ k. goes (take k tokens) (Some (state m []))) one ∙ p.there)) in
+        let levels : level s ≡ level st = ap (λ (x : State). level x) same in absurd (omega (arith, deep, low, levels))
+
 -- where tokens stop, what else is nested is nested within a command that begins with the first n tokens
 record Within (tokens : List Item) (n : ℕ) (m : Mode) (st : State) (i : ℕ) : Type 0 where
   names : Names
   nested : List Nested
-  next : Nested
-  more : List Nested
+  rest : List Nested
   token : Nested
   gs : List Frame
   act : WrittenAct
   size : length nested ≡ n
   same : map item nested ≡ take n tokens
-  runs : Runs names false m [] (nested ++ next ∷ more) (Done act) gs
+  runs : Runs names false m [] (nested ++ rest) (Done act) gs
   below : i < suc n
-  there : slice_get (nested ++ next ∷ more) i ≡ Some token
+  there : slice_get (nested ++ rest) i ≡ Some token
   deep : token.nesting ≡ 501
+
+-- a whole command is nested as the scan that prevails found
+whole_nested : {is : List Item} {m : Mode} {st : State} {c : WrittenCommand} (names : Names) (ns : List Nested) → ReadsCommand names ns c → (f : Finished is m st) → map item ns ≡ is
+    → f.nested ++ f.rest ≡ ns
+whole_nested names ns r f e = go f.rest refl
+  where
+    go : (us : List Nested) → f.rest ≡ us → f.nested ++ f.rest ≡ ns
+    go [] q =
+        let whole : f.nested ++ f.rest ≡ f.nested = append_nil f.nested f.rest q in
+        whole ∙ one_nesting f.names names (subst (λ ts. ReadsCommand f.names ts f.command) whole f.reads) r (f.same ∙ sym e)
+    go (t ∷ ts) q = absurd (no_longer names f.names ns f.nested t ts r (subst (λ us. ReadsCommand f.names (f.nested ++ us) f.command) q f.reads) (e ∙ sym f.same))
 
 within : (tokens : List Item) (n i : ℕ) (m : Mode) {st : State} → Prevailing tokens n m st → IsTooDeep tokens i → Within tokens n m st i
 within tokens n i m {st} p x = go x.nested x.so x.there
@@ -179,6 +234,26 @@ within tokens n i m {st} p x = go x.nested x.so x.there
     go : (ns : List Nested) → NestedSo tokens ns → slice_get ns i ≡ Some x.token → Within tokens n m st i
     go ns (NestedSo.read {names} {c = c} e r) g =
         absurd (p.unexpected.behind (names, drop (suc n) tokens, c, record { nested = ns; same = e ∙ sym (take-append-drop (suc n) tokens); reads = r }))
+    go ns (NestedSo.behind {names} nested u e r) g =
+        let size : length nested ≡ n = one_unexpected tokens (length nested) n u p.unexpected in
+        let same : map item nested ≡ take n tokens = e ∙ ap (λ k. take k tokens) size in
+        let f = finished (take n tokens) p.begin p.there in
+        let plain : nested ++ [] ≡ nested = append_nil nested [] refl in
+        let inside : i < length nested = slice_get_within nested i x.token g in
+        record {
+          names = f.names;
+          nested = nested;
+          rest = [];
+          token = x.token;
+          gs = f.frames;
+          act = f.act;
+          size = size;
+          same = same;
+          runs = subst (λ ts. Runs f.names false m [] ts (Done f.act) f.frames) (whole_nested names nested r f same ∙ sym plain) (runs_on f.first f.behind);
+          below = omega (arith, inside, size);
+          there = ap (λ ts. slice_get ts i) plain ∙ g;
+          deep = x.deep;
+        }
     go ns (NestedSo.unread {names} nested more next {c} u e v r) g =
         let size : length nested ≡ n = one_unexpected tokens (length nested) n u p.unexpected in
         let same : map item nested ≡ take n tokens = e ∙ ap (λ k. take k tokens) size in
@@ -190,8 +265,7 @@ within tokens n i m {st} p x = go x.nested x.so x.there
         record {
           names = names;
           nested = nested;
-          next = next;
-          more = more;
+          rest = next ∷ more;
           token = x.token;
           gs = [];
           act = kept_act false c.act;
@@ -203,37 +277,22 @@ within tokens n i m {st} p x = go x.nested x.so x.there
           deep = x.deep;
         }
 
--- UNREAD, NOT TOO DEEP. The code hands: which scan prevails, and that this scan's state was at most 500 levels deep before each
+-- NOT TOO DEEP. The code hands: which scan prevails, and that this scan's state was at most 500 levels deep before each
 -- token up to token n, at which it stopped.
 pub unread_shallow : (tokens : List Item) (n i : ℕ) (m : Mode) {st : State} → Prevailing tokens n m st → n < length tokens → Shallow m [] tokens (suc n) → IsTooDeep tokens i → ⊥
 unread_shallow tokens n i m p l sh x =
     let w = within tokens n i m p x in
-    let low = low_at w.names (suc n) i w.token w.runs (as_shallow tokens n (suc n) w.nested (w.next ∷ w.more) w.same (omega (arith, l)) (omega arith) sh) w.below w.there in
+    let low = low_at w.names (suc n) i w.token w.runs (as_shallow tokens n (suc n) w.nested w.rest w.same (omega (arith, l)) (omega arith) sh) w.below w.there in
     let deep = w.deep in omega (arith, low, deep)
-
--- BEHIND THE END. The code hands: the scan that prevails had ended in `Done` where it stopped: no command goes on there, so no
--- nesting is told of these tokens, and none of them is too deep, whatever the states were.
-pub unread_behind : (tokens : List Item) (n i : ℕ) (m : Mode) {st : State} (d : WrittenAct) → Prevailing tokens n m st → st.mode ≡ Done d → IsTooDeep tokens i → ⊥
-unread_behind tokens n i m {st} d p e x =
-    let w = within tokens n i m p x in
-    let y = split w.nested w.runs in
-    let here : Some (state y.0 y.1) ≡ Some st = sym (gone w.names y.2) ∙ (ap (λ is. goes is (Some (state m []))) w.same ∙ p.there) in
-    let mode : y.0 ≡ st.mode = ap (λ (s : State). s.mode) (the here) in
-    first y.3 (mode ∙ e)
-  where
-    first : {names : Names} {m1 m2 : Mode} {f1 f2 : List Frame} {t : Nested} {ts : List Nested} → Runs names false m1 f1 (t ∷ ts) m2 f2 → m1 ≡ Done d → ⊥
-    first (Runs.go f x r) q = no_move d x q
 
 -- The refusals, as `parse` gives them: the code hands besides the token that it refuses.
 pub refuse_unread : (held : Names) (tokens : List Item) (n : ℕ) (m : Mode) (t : Item) {st : State} → Prevailing tokens n m st → slice_get tokens n ≡ Some t
-    → Shallow m [] tokens (suc n) ⊎ ((d : WrittenAct) × (st.mode ≡ Done d)) → IsNoCommand held tokens (Fault.Unexpected t.place)
-refuse_unread held tokens n m t {st} p g h = (n, t, g, refl, p.unexpected, none h)
-  where
-    none : Shallow m [] tokens (suc n) ⊎ ((d : WrittenAct) × (st.mode ≡ Done d)) → (i : ℕ) → IsTooDeep tokens i → ⊥
-    none (inl sh) i x = unread_shallow tokens n i m p (slice_get_within tokens n t g) sh x
-    none (inr e) i x = unread_behind tokens n i m e.0 p e.1 x
+    → Shallow m [] tokens (suc n) → IsNoCommand held tokens (Fault.Unexpected t.place)
+refuse_unread held tokens n m t p g sh = (n, t, g, refl, p.unexpected, λ i x. unread_shallow tokens n i m p (slice_get_within tokens n t g) sh x)
 
-pub refuse_deep : (held : Names) (tokens : List Item) (n i : ℕ) (m : Mode) (t : Item) {st s : State} → Prevailing tokens n m st → ((d : WrittenAct) → st.mode ≡ Done d → ⊥) → n < length tokens → i ≤ n
+pub refuse_deep : (held : Names) (tokens : List Item) (n i : ℕ) (m : Mode) (t : Item) {st s : State} → Prevailing tokens n m st
+    → ((d : WrittenAct) → st.mode ≡ Done d → ⊥) ⊎ HasEnded st.mode → n < length tokens → i ≤ n
     → slice_get tokens i ≡ Some t → goes (take i tokens) (Some (state m [])) ≡ Some s → 500 < level s → Shallow m [] tokens i
     → IsNoCommand held tokens (Fault.TooDeep t.place)
-refuse_deep held tokens n i m t p on l h g e deep sh = (i, t, g, refl, unread_too_deep tokens n i m p on l h e deep sh)
+refuse_deep held tokens n i m t p (inl on) l h g e deep sh = (i, t, g, refl, unread_too_deep tokens n i m p on l h e deep sh)
+refuse_deep held tokens n i m t p (inr done) l h g e deep sh = (i, t, g, refl, behind_too_deep tokens n i m done.0 p done.1 l h e deep sh)

@@ -1,5 +1,5 @@
 -- What two scans say of tokens, for `parse`.
-use Rattle.std.proofs.Common.{◌≡◌, inl, inr, ℕ, suc, ◌≤◌, ◌<◌, List, [], ◌∷◌, ◌++◌, Option, Some, None, slice_get, get_or, map, take, length, true, refl, sym, ap, ◌∙◌, subst, arith}
+use Rattle.std.proofs.Common.{◌≡◌, ◌⊎◌, inl, inr, ℕ, suc, ◌≤◌, ◌<◌, List, [], ◌∷◌, ◌++◌, Option, Some, None, slice_get, get_or, map, take, length, true, refl, sym, ap, ◌∙◌, subst, arith}
 use Rattle.std.specs.Prelude.{option_map}
 use Rattle.std.proofs.lemmas.Option.{slice_get-get_or}
 use Rattle.lego_lexer.specs.Tokens.{OfSymbol, lexeme_of}
@@ -23,7 +23,7 @@ use Rattle.lego_parser.specs.Numbering.{LeavesNames}
 use Rattle.lego_parser.specs.private.Interning.{IsNumberingFault, IsPlaced}
 use Rattle.lego_grammar.specs.private.Machine.{Mode, Start, Between, Done, state}
 use Rattle.lego_grammar.specs.private.Runs.{goes}
-use Rattle.lego_parser.specs.private.Scanning.{mode_at, Shallow, Inside, IsStage, IsDepth, IsScan, Prevailing, Decides, IsWhole}
+use Rattle.lego_parser.specs.private.Scanning.{mode_at, Shallow, Inside, HasEnded, IsStage, IsDepth, IsScan, Prevailing, Decides, IsWhole}
 use Rattle.lego_parser.specs.declared.fault.ParseFault.{ParseFault}
 use Rattle.lego_parser.specs.declared.fault.ParseFault.TheVariants as Fault
 use Rattle.lego_parser.specs.declared.scan.Scan.{Scan}
@@ -104,20 +104,20 @@ module _ (items : List Item) (context other : Scan) (x : IsScan items (Between [
     context_is_inside n = record { mode = Between []; scanned = x; before = lx; prevailing = by_stage context.stage n x.stage }
 
 -- the refusal by the scan that says how tokens are nested
-not_done : (s : Stage) (m : Mode) → (s ≡ Stage.Ended → ⊥) → IsStage s m → (act : WrittenAct) → m ≡ Done act → ⊥
-not_done Stage.Nothing m n h act e = between (sym h ∙ e)
+ended_or_not : (s : Stage) (m : Mode) → IsStage s m → ((act : WrittenAct) → m ≡ Done act → ⊥) ⊎ HasEnded m
+ended_or_not Stage.Nothing m h = inl (λ act e. between act (sym h ∙ e))
   where
-    between : {d : WrittenAct} → Between [] ≡ Done d → ⊥
-    between q = cc
-not_done Stage.Inside m n h act e = inside (subst Inside e h)
+    between : (d : WrittenAct) → Between [] ≡ Done d → ⊥
+    between d q = cc
+ended_or_not Stage.Inside m h = inl (λ act e. inside act (subst Inside e h))
   where
-    inside : Inside (Done act) → ⊥
-    inside k = k
-not_done Stage.Behind m n h act e = between (sym h.2 ∙ e)
+    inside : (d : WrittenAct) → Inside (Done d) → ⊥
+    inside d k = k
+ended_or_not Stage.Behind m h = inl (λ act e. between act (sym h.2 ∙ e))
   where
-    between : Between (h.0 ∷ h.1) ≡ Done act → ⊥
-    between q = cc
-not_done Stage.Ended m n h act e = n refl
+    between : (d : WrittenAct) → Between (h.0 ∷ h.1) ≡ Done d → ⊥
+    between d q = cc
+ended_or_not Stage.Ended m h = inr h
 
 module _ (bytes : List ℕ) (tokens : List Token) (scan : Scan) (d : Decides (map (item_of bytes) tokens) scan) where
   abbrev items : List Item
@@ -136,18 +136,13 @@ module _ (bytes : List ℕ) (tokens : List Token) (scan : Scan) (d : Decides (ma
     stopped : slice_get items scan.stop ≡ Some (item_of bytes (get_or tokens scan.stop t))
     stopped = item_there bytes tokens scan.stop t stop_in
 
-    pub unexpected_behind : scan.stage ≡ Stage.Ended → IsNoCommand held items (Fault.Unexpected (get_or tokens scan.stop t).place)
-    unexpected_behind e =
-        refuse_unread held items scan.stop d.mode (item_of bytes (get_or tokens scan.stop t)) d.prevailing stopped
-        (inr (subst (λ s. IsStage s d.scanned.state_there.mode) e d.scanned.stage))
-
     pub unexpected_here : scan.deep ≡ None → IsNoCommand held items (Fault.Unexpected (get_or tokens scan.stop t).place)
-    unexpected_here e = refuse_unread held items scan.stop d.mode (item_of bytes (get_or tokens scan.stop t)) d.prevailing stopped (inl (at_depth None e))
+    unexpected_here e = refuse_unread held items scan.stop d.mode (item_of bytes (get_or tokens scan.stop t)) d.prevailing stopped (at_depth None e)
 
-    pub too_deep_here : (i : ℕ) → scan.deep ≡ Some i → (scan.stage ≡ Stage.Ended → ⊥) → IsNoCommand held items (Fault.TooDeep (get_or tokens i t).place)
-    too_deep_here i e n =
+    pub too_deep_here : (i : ℕ) → scan.deep ≡ Some i → IsNoCommand held items (Fault.TooDeep (get_or tokens i t).place)
+    too_deep_here i e =
         let at = at_depth (Some i) e in
-        refuse_deep held items scan.stop i d.mode (item_of bytes (get_or tokens i t)) d.prevailing (not_done scan.stage d.scanned.state_there.mode n d.scanned.stage)
+        refuse_deep held items scan.stop i d.mode (item_of bytes (get_or tokens i t)) d.prevailing (ended_or_not scan.stage d.scanned.state_there.mode d.scanned.stage)
         d.before at.0 (item_there bytes tokens i t (deep_in i e)) at.2 at.3 at.4
 
 -- a scan that went over all tokens

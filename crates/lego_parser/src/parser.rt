@@ -112,13 +112,9 @@ fn refuse(tokens: &[Token], scan: Scan) -> ParseFault
     ensures cause { (held : Numbering) (bytes : List ℕ) → IsNoCommand held (map (item_of bytes) tokens.now) result }
     ensures placed { IsPlaced result }
 {
-    match scan.stage {
-        // Behind an end no command goes on, so nothing is nested there.
-        Stage::Ended => unexpected(tokens, scan.stop),
-        _ => match scan.deep {
-            Some(at) => too_deep(tokens, at),
-            None => unexpected(tokens, scan.stop),
-        },
+    match scan.deep {
+        Some(at) => too_deep(tokens, at),
+        None => unexpected(tokens, scan.stop),
     }
 }
 

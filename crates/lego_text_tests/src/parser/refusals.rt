@@ -164,12 +164,14 @@ fn five_hundred_levels_are_the_most(rt: HostRuntime) -> Result<(), Fail> {
 
 #[test]
 fn the_earlier_refusal_is_answered(rt: HostRuntime) -> Result<(), Fail> {
-    // A token that is too deep and has no reading is too deep; behind an end nothing is nested.
-    let cases: [(&[u8], usize, &[u8], Option<ParseFault>); 4] = [
+    // A token that is too deep is refused first, also where it has no reading, and where the command goes on behind its end.
+    let cases: [(&[u8], usize, &[u8], Option<ParseFault>); 6] = [
         (b"(", 501, b"];A", too_deep(502)),
         (b"(", 500, b"]", unexpected(501)),
         (b"(", 501, b"A]", too_deep(502)),
         (b"(", 499, b"A]", unexpected(501)),
+        (b"A->", 501, b"A;B", too_deep(1504)),
+        (b"A->", 500, b"A;B", unexpected(1503)),
     ];
     for (open, count, middle, want) in &cases {
         let got = nested_fault(rt.alloc(), open, *count, middle, b"")?;
