@@ -1,0 +1,12 @@
+pub mod LeafLemmas
+pub mod ReadyLemmas
+pub mod PlaceLemmas
+pub mod ShapeLemmas
+pub mod MadeLemmas
+pub mod FailLemmas
+pub mod GatherLemmas
+pub mod LeafRules
+pub mod FormerRules
+pub mod OtherRules
+pub mod PairRule
+pub mod WholeLemmas
