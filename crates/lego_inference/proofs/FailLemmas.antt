@@ -1,7 +1,8 @@
 -- Why a check that comes to a term is refused.
 use Rattle.std.proofs.Common.{◌≡◌, ℕ, ◌+◌, ◌≤◌, ◌<◌, ◌⊎◌, inl, inr, List, Some, None, refl, ⊎_elim, arith}
 use Rattle.lego_base.specs.declared.place.Place.{Place}
-use Rattle.lego_term.specs.Trees.{Core, Equal}
+use Rattle.lego_term.specs.Trees.{Core}
+use Rattle.lego_term.specs.Made.{Fits}
 use Rattle.lego_term.specs.Parts.{IsTooLargeOnTheWay, tree}
 use Rattle.lego_laws.specs.Parallel.{AreClosed}
 use Rattle.lego_laws.specs.Entries.{Entry, core_bodies}
@@ -17,6 +18,7 @@ use Rattle.lego_inference.specs.Causes.{WrongHead, BudgetCause, IsMet, IsPassed,
 use Rattle.lego_inference.specs.Failures.{TypeFails}
 use Rattle.lego_inference.specs.Locals.{seen_at}
 use Rattle.lego_inference.specs.private.Judging.{Root, task_on, Inferred, Fails, FailsAt, HeadFails, PairFails, MakingFails, wrong}
+use Rattle.lego_inference.proofs.SizeLemmas.{too_large_differs}
 use Rattle.lego_inference.proofs.PlaceLemmas.{comes_stands, comes_within, stands_part, wanted_stands, Standing}
 
 something : {w : Want} → WantsHead w → w ≡ Nothing → ⊥
@@ -107,8 +109,8 @@ module _ {es : List Entry} {limit : ℕ} {s : Site} {m : Core} where
   at_pair closed judged PairFails.memory = λ r new comes reach. TypeFails.memory
 
   -- the stated type passes a limit, which the term's rule type doesn't
-  pub at_stated : {place : Place} {k : List Constraint} {have want : Core} {fault : TypeFault} → Inferred es place s m k have → (Equal have want → ⊥) → MakingFails want fault → FailsAt es limit s m (Stated want) fault
-  at_stated judged differ (MakingFails.too_large l) = λ r new comes reach.
+  pub at_stated : {place : Place} {k : List Constraint} {have want : Core} {fault : TypeFault} → Inferred es place s m k have → Fits have → MakingFails want fault → FailsAt es limit s m (Stated want) fault
+  at_stated {have = have} {want = want} judged fits (MakingFails.too_large l) = λ r new comes reach.
       let reached = reach judged.parts in
-      TypeFails.too_large (TooLargeCause.passed (IsPassed.stated 0 (pair_at judged r reached) differ (omega arith) refl) (tree l))
-  at_stated judged differ MakingFails.memory = λ r new comes reach. TypeFails.memory
+      TypeFails.too_large (TooLargeCause.passed (IsPassed.stated 0 (pair_at judged r reached) (too_large_differs have want _ _ fits l) (omega arith) refl) (tree l))
+  at_stated judged fits MakingFails.memory = λ r new comes reach. TypeFails.memory

@@ -10,3 +10,8 @@ pub mod FormerRules
 pub mod OtherRules
 pub mod PairRule
 pub mod WholeLemmas
+pub mod LocalLemmas
+pub mod SignatureLemmas
+pub mod JudgeLemmas
+pub mod ArmLemmas
+pub mod SizeLemmas

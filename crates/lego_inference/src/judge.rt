@@ -223,6 +223,8 @@ fn pair(
     checked(setting, locals, first, bound.domain, found)?;
     let have = judge(setting, locals, second, found)?;
     // Behind the second component's own type, so that a type too large is that of a wanted pair.
+    let _size = have.size();
+    let _depth = have.depth();
     let want = instance(setting.alloc, bound.body, first)?;
     compare(setting, locals, second, &have, &want, found)?;
     sigma_former(setting.alloc, bound.binder, bound.domain, bound.body)

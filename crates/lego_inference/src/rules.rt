@@ -34,6 +34,7 @@ pub(crate) fn variable(setting: &Setting<'_>, locals: &Locals, index: u32) -> Re
     let Some(ty) = locals.ty(index) else {
         unreachable!()
     };
+    let _count = locals.len();
     match lifted(setting.alloc, ty, 0, index + 1) {
         Ok(ty) => Ok(ty),
         Err(_) => Err(TypeFault::Memory),
