@@ -15,3 +15,6 @@ pub mod SignatureLemmas
 pub mod JudgeLemmas
 pub mod ArmLemmas
 pub mod SizeLemmas
+pub mod HeadLemmas
+pub mod StatedLemmas
+pub mod CallLemmas

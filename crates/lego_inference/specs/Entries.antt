@@ -1,6 +1,8 @@
 -- The entries of a signature, and the same as the laws see them.
-use Rattle.std.specs.Prelude.{◌≡◌, ℕ, ◌≤◌, List, [], ◌∷◌, map, Option, Some, None, Contains}
-use Rattle.lego_term.specs.Trees.{Core, levels_of}
+use Rattle.std.specs.Prelude.{ℕ, List, map, Option, Some, None}
+use Rattle.std.specs.FinMap.{insert}
+use Rattle.lego_term.specs.Trees.{Core}
+use Rattle.lego_term.specs.BodyMap.{BodyMap}
 use Rattle.lego_laws.specs.Entries.{Entry, core_bodies}
 use Rattle.lego_laws.specs.Parallel.{AreClosed}
 use Rattle.lego_laws.specs.Principal.{core_types}
@@ -19,6 +21,11 @@ pub record AreClosedEntries (es : List Entry) : Type 0 where
   pub types : AreClosed (core_types es)
   pub bodies : AreClosed (core_bodies es)
 
--- the entry of this number, the oldest first
+-- the numbers of the entries, in order
 abbrev pub numbers_of : List Item → List ℕ
 numbers_of es = map (λ e. e.number) es
+
+-- the bodies with that of one more number, where it has one
+abbrev pub with_body : BodyMap → ℕ → Option Core → BodyMap
+with_body bodies number None = bodies
+with_body bodies number (Some body) = insert bodies number body

@@ -32,14 +32,15 @@ pub fn infer(
     requires term { IsTermOver signature.now locals.now levels m.now }
     ensures { Infers (task_over signature.now locals.now levels m.now AnyType) asked result }
 {
+    let alloc = signature.alloc();
     let setting = Setting {
-        alloc: signature.alloc(),
+        alloc,
         signature,
         asked,
     };
     let mut locals = locals.copy()?;
-    let mut found = Gathered::new(setting.alloc, levels);
-    measure(setting.alloc, m)?;
+    let mut found = Gathered::new(alloc, levels);
+    measure(alloc, m)?;
     let ty = judge(&setting, &mut locals, m, &mut found)?;
     Ok(judged(ty, found))
 }
@@ -56,14 +57,15 @@ pub fn infer_type(
     requires term { IsTermOver signature.now locals.now levels a.now }
     ensures { InfersType (task_over signature.now locals.now levels a.now BeAType) asked result }
 {
+    let alloc = signature.alloc();
     let setting = Setting {
-        alloc: signature.alloc(),
+        alloc,
         signature,
         asked,
     };
     let mut locals = locals.copy()?;
-    let mut found = Gathered::new(setting.alloc, levels);
-    measure(setting.alloc, a)?;
+    let mut found = Gathered::new(alloc, levels);
+    measure(alloc, a)?;
     let ty = judge(&setting, &mut locals, a, &mut found)?;
     sort_of(&setting, &locals, a, &ty)?;
     Ok(judged(ty, found))
@@ -83,14 +85,15 @@ pub fn check(
     requires wanted { IsTermOver signature.now locals.now levels want.now }
     ensures { Checks (task_over signature.now locals.now levels m.now (OfType want.now)) want.now asked result }
 {
+    let alloc = signature.alloc();
     let setting = Setting {
-        alloc: signature.alloc(),
+        alloc,
         signature,
         asked,
     };
     let mut locals = locals.copy()?;
-    let mut found = Gathered::new(setting.alloc, levels);
-    measure(setting.alloc, m)?;
+    let mut found = Gathered::new(alloc, levels);
+    measure(alloc, m)?;
     checked(&setting, &mut locals, m, want, &mut found)?;
     Ok(judged(want.share()?, found))
 }
@@ -109,15 +112,16 @@ pub fn check_written(
     requires written { IsTermOver signature.now locals.now levels written.now }
     ensures { ChecksWritten (task_over signature.now locals.now levels m.now (OfWrittenType written.now)) written.now asked result }
 {
+    let alloc = signature.alloc();
     let setting = Setting {
-        alloc: signature.alloc(),
+        alloc,
         signature,
         asked,
     };
     let mut locals = locals.copy()?;
-    let mut found = Gathered::new(setting.alloc, levels);
-    measure(setting.alloc, m)?;
-    measure(setting.alloc, written)?;
+    let mut found = Gathered::new(alloc, levels);
+    measure(alloc, m)?;
+    measure(alloc, written)?;
     let have = judge(&setting, &mut locals, m, &mut found)?;
     type_at(&setting, &mut locals, written, &mut found)?;
     compare(&setting, &locals, m, &have, written, &mut found)?;

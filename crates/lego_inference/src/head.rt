@@ -1,12 +1,13 @@
 //! Head forms of rule types, and the refusal of one that is not as its place wants it.
-ghost use Rattle.std.specs.Prelude.{◌≤◌};
+ghost use Rattle.std.specs.Prelude.{◌≡◌, ◌≤◌, IfOk, IfErr};
 ghost use Rattle.lego_term.specs.Trees.{loose};
 ghost use Rattle.lego_laws.specs.Places.{AType, AFunction, APair};
 ghost use Rattle.lego_laws.specs.Ranges.{sort_term};
+ghost use Rattle.lego_inference.specs.declared.fault.TypeFault.TheVariants.{Memory};
 ghost use Rattle.lego_inference.specs.Entries.{laws_entries};
 ghost use Rattle.lego_inference.specs.Locals.{binders_of};
 ghost use Rattle.lego_inference.specs.private.Judging.{FindsHead, product_of as product_tree, sigma_of as sigma_tree};
-ghost use Rattle.lego_inference.specs.private.Wanting.{want_of, IsHeadOf, Wrongs};
+ghost use Rattle.lego_inference.specs.private.Wanting.{want_of, IsHeadOf, IsIn, Wrongs};
 
 use crate::fault::TypeFault;
 use crate::locals::Locals;
@@ -41,6 +42,18 @@ pub(crate) fn sort_of(
     ensures { FindsHead sort_term (laws_entries setting.now.signature.now) setting.now.asked (binders_of locals.now) term.now AType ty.now result }
 {
     let found = head_of(setting, locals, ty)?;
+    sort_in(locals, term, ty, &found)
+}
+
+/// The sort, where this is the head form.
+fn sort_in(
+    locals: &Locals,
+    term: &Term,
+    ty: &Term,
+    found: &Term,
+) -> Result<Option<Level>, TypeFault>
+    ensures { IsIn sort_term AType (binders_of locals.now) term.now ty.now found.now result }
+{
     match found.view() {
         Node::Prop => Ok(None),
         Node::Univ(level) => Ok(Some(level)),
@@ -59,12 +72,20 @@ pub(crate) fn product_of(
     ensures { FindsHead product_tree (laws_entries setting.now.signature.now) setting.now.asked (binders_of locals.now) term.now AFunction ty.now result }
 {
     let found = head_of(setting, locals, ty)?;
+    product_in(locals, term, ty, &found)
+}
+
+/// The product, where this is the head form.
+fn product_in(
+    locals: &Locals,
+    term: &Term,
+    ty: &Term,
+    found: &Term,
+) -> Result<Former, TypeFault>
+    ensures { IsIn product_tree AFunction (binders_of locals.now) term.now ty.now found.now result }
+{
     match found.view() {
-        Node::Pi(binder, domain, body) => Ok(Former {
-            binder,
-            domain: domain.share()?,
-            body: body.share()?,
-        }),
+        Node::Pi(binder, domain, body) => shared(binder, domain, body),
         _ => Err(wrong(Wanted::Function, locals, term, ty)),
     }
 }
@@ -80,14 +101,34 @@ pub(crate) fn sigma_of(
     ensures { FindsHead sigma_tree (laws_entries setting.now.signature.now) setting.now.asked (binders_of locals.now) term.now APair ty.now result }
 {
     let found = head_of(setting, locals, ty)?;
+    sigma_in(locals, term, ty, &found)
+}
+
+/// The Sigma type, where this is the head form.
+fn sigma_in(
+    locals: &Locals,
+    term: &Term,
+    ty: &Term,
+    found: &Term,
+) -> Result<Former, TypeFault>
+    ensures { IsIn sigma_tree APair (binders_of locals.now) term.now ty.now found.now result }
+{
     match found.view() {
-        Node::Sigma(binder, domain, body) => Ok(Former {
-            binder,
-            domain: domain.share()?,
-            body: body.share()?,
-        }),
+        Node::Sigma(binder, domain, body) => shared(binder, domain, body),
         _ => Err(wrong(Wanted::Pair, locals, term, ty)),
     }
+}
+
+/// The parts of a product or a Sigma type, shared.
+fn shared(binder: Binder, domain: &Term, body: &Term) -> Result<Former, TypeFault>
+    ensures ok { IfOk result (λ made. made ≡ record { binder = binder; domain = domain.now; body = body.now }) }
+    ensures err { IfErr result (λ fault. fault ≡ Memory) }
+{
+    Ok(Former {
+        binder,
+        domain: domain.share()?,
+        body: body.share()?,
+    })
 }
 
 /// The head form of a rule type.

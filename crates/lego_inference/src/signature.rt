@@ -2,9 +2,9 @@
 ghost use Rattle.std.specs.Prelude.{◌≡◌, ◌<◌, ◌≤◌, ◌++◌, [], ◌∷◌, length, slice_get, option_map, Contains, OnOk, OnErr, IfSome};
 ghost use Rattle.std.specs.Option.{option_copied};
 ghost use Rattle.lego_term.specs.Trees.{loose};
-ghost use Rattle.lego_term.specs.BodyMap.{bodies_in, AreClosed};
+ghost use Rattle.lego_term.specs.BodyMap.{bodies_in};
 ghost use Rattle.lego_laws.specs.Entries.{core_bodies, entry_of};
-ghost use Rattle.lego_inference.specs.Entries.{laws_entry, laws_entries, numbers_of, AreClosedEntries};
+ghost use Rattle.lego_inference.specs.Entries.{laws_entry, laws_entries, numbers_of, AreClosedEntries, with_body};
 
 use crate::entry::Entry;
 use indexmap::IndexSet;
@@ -70,8 +70,10 @@ impl Signature {
     pub fn find(&self, number: u32) -> Option<&Entry>
         ensures { option_map laws_entry (option_copied result) ≡ entry_of (laws_entries self.now) number }
     {
-        let at = self.numbers.get_index_of(&number)?;
-        self.entries.get(at)
+        match self.numbers.get_index_of(&number) {
+            Some(at) => self.entries.get(at),
+            None => None,
+        }
     }
 
     /// The bodies of the entries.
@@ -96,19 +98,31 @@ impl Signature {
         let Ok(_) = self.numbers.insert(number) else {
             return Err(AllocError);
         };
-        if let Some(body) = &entry.body {
-            if self.bodies.put(number, body).is_err() {
-                self.numbers.truncate(self.entries.len());
-                return Err(AllocError);
-            }
-        }
+        let Ok(()) = keep_body(&mut self.bodies, &entry) else {
+            self.numbers.truncate(self.entries.len());
+            return Err(AllocError);
+        };
         let Ok(()) = self.entries.push(entry) else {
             unreachable!()
         };
         Ok(())
     }
 
-    pub(crate) fn alloc(&self) -> Global {
+    /// The allocator. No entry has a loose variable.
+    pub(crate) fn alloc(&self) -> Global
+        ensures { AreClosedEntries (laws_entries self.now) }
+    {
         self.alloc
+    }
+}
+
+/// Keeps the body of the entry, where it has one.
+fn keep_body(bodies: &mut Bodies, entry: &Entry) -> Result<(), AllocError>
+    ensures ok { OnOk result (bodies.new ≡ with_body bodies.old entry.now.number entry.now.body) }
+    ensures err { OnErr result (bodies.new ≡ bodies.old) }
+{
+    match &entry.body {
+        Some(body) => bodies.put(entry.number, body),
+        None => Ok(()),
     }
 }

@@ -1,8 +1,9 @@
 //! The comparison of a term's rule type with the type that its place states.
-ghost use Rattle.std.specs.Prelude.{◌≤◌};
+ghost use Rattle.std.specs.Prelude.{◌≡◌, ◌≤◌, ◌⊎◌, Some};
 ghost use Rattle.lego_term.specs.Trees.{loose};
+ghost use Rattle.lego_inference.specs.declared.fault.TypeFault.TheVariants.{Mismatch, Budget, Memory};
 ghost use Rattle.lego_inference.specs.Entries.{laws_entries};
-ghost use Rattle.lego_inference.specs.Locals.{binders_of};
+ghost use Rattle.lego_inference.specs.Locals.{binders_of, seen_under};
 ghost use Rattle.lego_inference.specs.private.Judging.{Compares};
 ghost use Rattle.lego_inference.specs.private.Wanting.{Refuses};
 
@@ -33,7 +34,7 @@ pub(crate) fn compare(
             found.constraints.extend_from_slice(&more)?;
             Ok(())
         }
-        Err(fault) => Err(refusal(locals, term, have, want, fault)),
+        Err(fault) => Err(refusal(locals, term, have, want, &fault)),
     }
 }
 
@@ -43,24 +44,40 @@ fn refusal(
     term: &Term,
     have: &Term,
     want: &Term,
-    fault: CompareFault,
+    fault: &CompareFault,
 ) -> TypeFault
-    ensures { Refuses (binders_of locals.now) term.now have.now want.now fault result }
+    ensures { Refuses (binders_of locals.now) term.now have.now want.now fault.now result }
 {
-    if let CompareFault::TooLarge { size, depth } = fault {
-        return TypeFault::TooLarge { size, depth };
-    }
-    let (Ok(term), Ok(have), Ok(want)) = (seen(locals, term), seen(locals, have), seen(locals, want))
-    else {
-        return TypeFault::Memory;
-    };
     match fault {
-        CompareFault::Differ { .. } => TypeFault::Mismatch { term, have, want },
-        CompareFault::Budget => TypeFault::Budget {
-            left: have,
-            right: Some(want),
+        CompareFault::Differ { .. } => mismatch(locals, term, have, want),
+        CompareFault::Budget => over_budget(locals, have, want),
+        CompareFault::TooLarge { size, depth } => TypeFault::TooLarge {
+            size: *size,
+            depth: *depth,
         },
-        CompareFault::TooLarge { size, depth } => TypeFault::TooLarge { size, depth },
         CompareFault::Memory => TypeFault::Memory,
+    }
+}
+
+/// The refusal of a term whose rule type isn't below the stated type.
+fn mismatch(locals: &Locals, term: &Term, have: &Term, want: &Term) -> TypeFault
+    ensures { (result ≡ Mismatch (seen_under (binders_of locals.now) term.now) (seen_under (binders_of locals.now) have.now) (seen_under (binders_of locals.now) want.now)) ⊎ (result ≡ Memory) }
+{
+    match (seen(locals, term), seen(locals, have), seen(locals, want)) {
+        (Ok(term), Ok(have), Ok(want)) => TypeFault::Mismatch { term, have, want },
+        _ => TypeFault::Memory,
+    }
+}
+
+/// The refusal of a comparison that is over its limit.
+fn over_budget(locals: &Locals, have: &Term, want: &Term) -> TypeFault
+    ensures { (result ≡ Budget (seen_under (binders_of locals.now) have.now) (Some (seen_under (binders_of locals.now) want.now))) ⊎ (result ≡ Memory) }
+{
+    match (seen(locals, have), seen(locals, want)) {
+        (Ok(left), Ok(right)) => TypeFault::Budget {
+            left,
+            right: Some(right),
+        },
+        _ => TypeFault::Memory,
     }
 }

@@ -1,11 +1,11 @@
 -- What is wanted of a head form, and its refusals.
-use Rattle.std.specs.Prelude.{◌≡◌, ℕ, ◌≤◌, List, Some, None, Result, Ok, Err}
+use Rattle.std.specs.Prelude.{◌≡◌, ℕ, ◌≤◌, ◌⊎◌, List, Some, None, Result, Ok, Err}
 use Rattle.lego_term.specs.declared.binder.Binder.{Binder}
 use Rattle.lego_term.specs.Trees.{Core}
 use Rattle.lego_term.specs.Parts.{IsTooLarge}
 use Rattle.lego_term.specs.Sequences.{HeadForm, head_step, after, MoreThan}
 use Rattle.lego_laws.specs.Entries.{Entry, core_bodies}
-use Rattle.lego_laws.specs.Places.{Want, AType, AFunction, APair}
+use Rattle.lego_laws.specs.Places.{Want, Fulfils, AType, AFunction, APair}
 use Rattle.lego_compare.specs.declared.fault.CompareFault.{CompareFault}
 use Rattle.lego_compare.specs.declared.fault.CompareFault.TheVariants as compare
 use Rattle.lego_inference.specs.declared.fault.TypeFault.{TypeFault}
@@ -35,6 +35,11 @@ IsHeadOf es limit xs got (Err why) = LacksHead es limit xs got why
 pub data Wrongs (w : Want) (xs : List Binder) (m got : Core) : TypeFault → Type 0 where
   unfit : Wrongs w xs m got (wrong w (seen_under xs m) (seen_under xs got))
   memory : Wrongs w xs m got fault.Memory
+
+-- what is found is this head form, or the head form is not as wanted
+abbrev pub IsIn : {T : Type 0} → (T → Core) → Want → List Binder → (m got h : Core) → Result T TypeFault → Type 0
+IsIn head_of w xs m got h (Ok found) = h ≡ head_of found
+IsIn head_of w xs m got h (Err why) = (why ≡ fault.Memory) ⊎ ((Fulfils w h → ⊥) × Wrongs w xs m got why)
 
 -- the refusal of a term by a comparison's fault, unless memory ran out
 pub data Refuses (xs : List Binder) (m have want : Core) : CompareFault → TypeFault → Type 0 where
