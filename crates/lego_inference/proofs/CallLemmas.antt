@@ -42,7 +42,7 @@ judged_is j a k n e f g =
     ∙ ap (λ z. record { ty = a; constraints = z; levels = j.levels }) f
     ∙ ap (λ z. record { ty = a; constraints = k; levels = z }) g
 
-pub ready_behind : {es : List Entry} {s : Site} {m : Core} {n : ℕ} → IsReady es s m → IsReady es (behind n s) m
-ready_behind r =
+pub ready_behind : {es : List Entry} {s : Site} {m : Core} (n : ℕ) → IsReady es s m → IsReady es (behind n s) m
+ready_behind n r =
     let within = r.over.levels_within in
     record { closed = r.closed; scoped = r.scoped; few = r.few; over = record { names = r.over.names; variables = r.over.variables; levels_within = omega arith } }

@@ -47,7 +47,7 @@ returns-in_err-have c =
 
 pub type_at-requires : goal.type_at-requires
 type_at-requires c =
-    at_site (λ z. IsReady (laws_entries c.args.signature.now) z c.args.written.now) {l = c.args.locals.now} {n = c.args.levels + nodes c.args.m.now} (sym (c.in_ok-have.ensures.kept ∙ c.in_ok-locals.ensures)) (sym (c.in_ok-have.ensures.judged.1.levels ∙ ap (λ (z : ℕ). z + nodes c.args.m.now) c.new-found.ensures.levels)) (ready_behind (ready_whole c.args.signature.now c.args.locals.now c.args.levels c.args.written.now c.in_ok-measure-2.field-0 c.alloc-alloc.ensures c.requires.held c.requires.written c.in_ok-measure-2.ensures))
+    at_site (λ z. IsReady (laws_entries c.args.signature.now) z c.args.written.now) {l = c.args.locals.now} {n = c.args.levels + nodes c.args.m.now} (sym (c.in_ok-have.ensures.kept ∙ c.in_ok-locals.ensures)) (sym (c.in_ok-have.ensures.judged.1.levels ∙ ap (λ (z : ℕ). z + nodes c.args.m.now) c.new-found.ensures.levels)) (ready_behind (nodes c.args.m.now) (ready_whole c.args.signature.now c.args.locals.now c.args.levels c.args.written.now c.in_ok-measure-2.field-0 c.alloc-alloc.ensures c.requires.held c.requires.written c.in_ok-measure-2.ensures))
 
 pub returns-in_err-type_at : goal.returns-in_err-type_at
 returns-in_err-type_at c =
