@@ -2,7 +2,7 @@
 use Rattle.std.proofs.Common.{◌≡◌, ℕ, zero, suc, ◌+◌, ◌<◌, ◌≤◌, nat_eq, nat_lt, if◌then◌else◌, cond, Bool, true, false, List, [], ◌∷◌, ◌++◌, map, length, position, slice_get, Option, Some, None, option_map, option_and_then, IfSome, Contains, refl, sym, ap, ◌∙◌, subst, arith}
 use Rattle.std.specs.List.{list_any, position_or_len}
 use Rattle.std.proofs.lemmas.List.{map-append}
-use Rattle.std.specs.FinMap.{empty, get-insert, nat_cmp-IsAntisymmetric}
+use Rattle.std.specs.FinMap.{empty, get-empty, get-insert, nat_cmp-IsAntisymmetric}
 use Rattle.std.specs.Ordering.{nat_cmp, eq_by_cmp}
 use Rattle.std.specs.Cmp.{nat_cmp_total, eq_by_cmp_equiv}
 use Rattle.std.specs.declared.cmp.Ordering.{Ordering}
@@ -119,7 +119,7 @@ module _ (es : List Item) (e : Item) (new : Contains (numbers_of es) e.number �
       last ∙ ap (λ z. z ++ e.number ∷ []) is ∙ sym (map-append (λ (y : Item). y.number) es (e ∷ []))
 
 none_at : (k : ℕ) → bodies_in empty k ≡ core_bodies (laws_entries []) k
-none_at k = refl
+none_at k = get-empty nat_cmp k
 
 no_bodies : bodies_in empty ≡ core_bodies (laws_entries [])
 no_bodies = fun_ext none_at

@@ -71,7 +71,7 @@ impl Signature {
         ensures { option_map laws_entry (option_copied result) ≡ entry_of (laws_entries self.now) number }
     {
         match self.numbers.get_index_of(&number) {
-            Some(at) => self.entries.get(at),
+            Some(at) => self.entry(at),
             None => None,
         }
     }

@@ -31,9 +31,13 @@ returns-in_err-measure c =
     let e = err_from_is_err_and c.from_residual-in_err-measure.result c.from_residual-in_err-measure.ensures.1 in
     rw (e.1, e.2) (measured_fails c.args.asked.limit (task_over c.args.signature.now c.args.locals.now c.args.levels c.args.m.now (OfType c.args.want.now)) c.args.m.now c.in_err-measure.field-0.0 IsWhole.core c.in_err-measure.ensures)
 
-pub checked-requires : goal.checked-requires
-checked-requires c =
-    ((at_site (λ z. IsReady (laws_entries c.args.signature.now) z c.args.m.now) {l = c.args.locals.now} {n = c.args.levels} (sym c.in_ok-locals.ensures) (sym c.new-found.ensures.levels) (ready_whole c.args.signature.now c.args.locals.now c.args.levels c.args.m.now c.in_ok-measure.field-0 c.alloc-alloc.ensures c.requires.held c.requires.term c.in_ok-measure.ensures)), (let v = c.requires.wanted.variables in let k = ap (λ (z : List Local). length z) c.in_ok-locals.ensures in omega (arith, length-map (λ (z : Local). z.ty) c.args.locals.now)))
+pub checked-requires-clause-ready : goal.checked-requires-clause-ready
+checked-requires-clause-ready c =
+    (at_site (λ z. IsReady (laws_entries c.args.signature.now) z c.args.m.now) {l = c.args.locals.now} {n = c.args.levels} (sym c.in_ok-locals.ensures) (sym c.new-found.ensures.levels) (ready_whole c.args.signature.now c.args.locals.now c.args.levels c.args.m.now c.in_ok-measure.field-0 c.alloc-alloc.ensures c.requires.held c.requires.term c.in_ok-measure.ensures))
+
+pub checked-requires-clause-stated : goal.checked-requires-clause-stated
+checked-requires-clause-stated c =
+    (let v = c.requires.wanted.variables in let k = ap (λ (z : List Local). length z) c.in_ok-locals.ensures in omega (arith, length-map (λ (z : Local). z.ty) c.args.locals.now))
 
 pub returns-in_err-checked : goal.returns-in_err-checked
 returns-in_err-checked c =

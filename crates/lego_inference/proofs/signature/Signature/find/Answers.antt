@@ -14,4 +14,7 @@ returns-in-None c =
 pub returns-in-Some : goal.returns-in-Some
 returns-in-Some c =
     let there = ap (λ (ks : List ℕ). position (nat_eq c.args.number) ks) (sym c.self.invariant.1) ∙ sym c.in-Some.ensures.index in
-    let found = c.get.ensures in ?
+    ap (option_map laws_entry) c.entry.ensures
+    ∙ ap (λ (es : List Item). option_map laws_entry (slice_get es c.in-Some.at)) (sym c.self.view_is)
+    ∙ find_entry c.self.inside.entries.items c.args.number c.in-Some.at there
+    ∙ ap (λ (es : List Item). entry_of (laws_entries es) c.args.number) c.self.view_is
