@@ -1,0 +1,56 @@
+use Rattle.std.proofs.Common.{◌≡◌, ℕ, ◌+◌, ◌++◌, ◌∙◌, List, length, Ok, Err, refl, sym, ap, subst, arith}
+use Rattle.std.proofs.lemmas.Result.{err_from_is_err_and}
+use Rattle.lego_term.specs.Trees.{Core}
+use Rattle.lego_level.specs.declared.constraint.Constraint.{Constraint}
+use Rattle.lego_laws.specs.Places.{AType, Stated, Site, behind, AnyType, BeAType, OfType, OfWrittenType}
+use Rattle.lego_laws.specs.RuleTypes.{nodes}
+use Rattle.lego_laws.specs.Ranges.{sort_term}
+use Rattle.lego_inference.specs.Causes.{IsWhole}
+use Rattle.lego_inference.specs.Failures.{TypeFails}
+use Rattle.lego_inference.specs.Calls.{task_over}
+use Rattle.lego_inference.specs.Entries.{laws_entries}
+use Rattle.lego_inference.specs.Locals.{site_of, types_of, binders_of}
+use Rattle.lego_inference.specs.declared.locals.Local.{Local}
+use Rattle.lego_inference.specs.private.Judging.{IsReady, Fails, FailsAt, Infers, FindsSort, ChecksAt, FindsHead, Compares, PairFails}
+use Rattle.lego_inference.proofs.LocalLemmas.{length-map}
+use Rattle.lego_inference.proofs.ReadyLemmas.{loose_of}
+use Rattle.lego_inference.proofs.FailLemmas.{at_pair}
+use Rattle.lego_inference.proofs.FormerRules.{type_shaped}
+use Rattle.lego_inference.proofs.JudgeLemmas.{at_site, sort_found, few_names}
+use Rattle.lego_inference.proofs.CallLemmas.{ready_whole, measured_fails, judged_is}
+use Rattle.lego_inference.proofs.WholeLemmas.{is_new, whole_fails, type_fails, check_fails, written_fails, against_fails, inferred_whole, type_whole, check_whole, written_whole}
+use Rattle.lego_inference.proofs.calls.check.Goals as goal
+
+pub returns-in_err-locals : goal.returns-in_err-locals
+returns-in_err-locals c =
+    let e = err_from_is_err_and c.from_residual.result c.from_residual.ensures.1 in
+    rw (e.1, e.2) (TypeFails.memory)
+
+pub returns-in_err-measure : goal.returns-in_err-measure
+returns-in_err-measure c =
+    let e = err_from_is_err_and c.from_residual-in_err-measure.result c.from_residual-in_err-measure.ensures.1 in
+    rw (e.1, e.2) (measured_fails c.args.asked.limit (task_over c.args.signature.now c.args.locals.now c.args.levels c.args.m.now (OfType c.args.want.now)) c.args.m.now c.in_err-measure.field-0.0 IsWhole.core c.in_err-measure.ensures)
+
+pub checked-requires-clause-ready : goal.checked-requires-clause-ready
+checked-requires-clause-ready c =
+    (at_site (λ z. IsReady (laws_entries c.args.signature.now) z c.args.m.now) {l = c.args.locals.now} {n = c.args.levels} (sym c.in_ok-locals.ensures) (sym c.new-found.ensures.levels) (ready_whole c.args.signature.now c.args.locals.now c.args.levels c.args.m.now c.in_ok-measure.field-0 c.alloc-alloc.ensures c.requires.held c.requires.term c.in_ok-measure.ensures))
+
+pub checked-requires-clause-stated : goal.checked-requires-clause-stated
+checked-requires-clause-stated c =
+    (let v = c.requires.wanted.variables in let k = ap (λ (z : List Local). length z) c.in_ok-locals.ensures in omega (arith, length-map (λ (z : Local). z.ty) c.args.locals.now))
+
+pub returns-in_err-checked : goal.returns-in_err-checked
+returns-in_err-checked c =
+    let e = err_from_is_err_and c.from_residual-in_err-checked.result c.from_residual-in_err-checked.ensures.1 in
+    rw (e.1, e.2) (check_fails (laws_entries c.args.signature.now) c.args.asked.limit (site_of c.args.locals.now c.args.levels) c.args.m.now c.in_err-checked.field-0.0 c.args.want.now (is_new (laws_entries c.args.signature.now) (site_of c.args.locals.now c.args.levels) c.args.m.now (OfType c.args.want.now) c.requires.held.entries c.requires.held.types (let w = c.requires.term.levels_within in let v = c.requires.wanted.levels_within in omega arith)) (at_site (λ z. FailsAt (laws_entries c.args.signature.now) c.args.asked.limit z c.args.m.now (Stated c.args.want.now) c.in_err-checked.field-0.0) {l = c.in_ok-locals.locals} {n = c.new-found.result.levels} c.in_ok-locals.ensures c.new-found.ensures.levels c.in_err-checked.ensures.judged))
+
+pub returns-in_err-share : goal.returns-in_err-share
+returns-in_err-share c =
+    let e = err_from_is_err_and c.from_residual-in_err-share.result c.from_residual-in_err-share.ensures.1 in
+    rw (e.1, e.2) (TypeFails.memory)
+
+pub returns : goal.returns
+returns c =
+    let j = (at_site (λ z. ChecksAt (laws_entries c.args.signature.now) c.args.asked z c.args.m.now c.args.want.now c.new-found.result c.checked.new.found (Ok tt)) {l = c.in_ok-locals.locals} {n = c.new-found.result.levels} c.in_ok-locals.ensures c.new-found.ensures.levels c.in_ok-checked.ensures.judged) in
+    check_whole (laws_entries c.args.signature.now) c.args.asked.place (site_of c.args.locals.now c.args.levels) c.args.m.now c.args.want.now j.0 c.judged.result c.requires.wanted.levels_within j.2
+    (judged_is c.judged.result c.args.want.now j.0 (c.args.levels + nodes c.args.m.now) (c.judged.ensures.ty ∙ c.in_ok-share.ensures.same) (c.judged.ensures.constraints ∙ j.1.constraints ∙ ap (λ (z : List Constraint). z ++ j.0) c.new-found.ensures.constraints) (c.judged.ensures.levels ∙ j.1.levels ∙ ap (λ (z : ℕ). z + nodes c.args.m.now) c.new-found.ensures.levels))

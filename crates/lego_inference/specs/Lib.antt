@@ -1,0 +1,9 @@
+pub mod Entries
+pub mod EntryCode
+pub mod LocalCode
+pub mod Locals
+pub mod Causes
+pub mod Failures
+pub mod Inferred
+pub mod Calls
+pub mod private

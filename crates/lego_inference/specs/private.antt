@@ -1,0 +1,5 @@
+-- Definitions that only private functions and proofs need.
+pub mod Faults
+pub mod Gathering
+pub mod Judging
+pub mod Wanting

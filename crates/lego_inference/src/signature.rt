@@ -1,0 +1,128 @@
+//! Signatures: what the constants of terms stand for.
+ghost use Rattle.std.specs.Prelude.{◌≡◌, ◌<◌, ◌≤◌, ◌++◌, [], ◌∷◌, length, slice_get, option_map, Contains, OnOk, OnErr, IfSome};
+ghost use Rattle.std.specs.Option.{option_copied};
+ghost use Rattle.lego_term.specs.Trees.{loose};
+ghost use Rattle.lego_term.specs.BodyMap.{bodies_in};
+ghost use Rattle.lego_laws.specs.Entries.{core_bodies, entry_of};
+ghost use Rattle.lego_inference.specs.Entries.{laws_entry, laws_entries, numbers_of, AreClosedEntries, with_body};
+
+use crate::entry::Entry;
+use indexmap::IndexSet;
+use lego_term::Bodies;
+use std::alloc::{AllocError, Global};
+use std::marker::Model;
+
+/// Entries, the oldest first, with different numbers and without loose variables.
+#[derive(Drop)]
+pub struct Signature {
+    alloc: Global,
+    entries: Vec<Entry>,
+    numbers: IndexSet<u32>,
+    bodies: Bodies,
+}
+
+impl Model for Signature {
+    ghost use Rattle.std.specs.Prelude.{List, ◌≡◌};
+    ghost use Rattle.std.specs.Coded.{coded_list};
+    ghost use Rattle.lego_term.specs.BodyMap.{bodies_in};
+    ghost use Rattle.lego_laws.specs.Entries.{core_bodies};
+    ghost use Rattle.lego_inference.specs.Entries.{laws_entries, numbers_of, AreClosedEntries};
+    ghost use Rattle.lego_inference.specs.EntryCode.{entry_code};
+    ghost use Rattle.lego_inference.specs.declared.entry.Entry.{Entry as Item};
+
+    ghost Value = { List Item };
+
+    ghost coded = { coded_list entry_code };
+
+    ghost view = { λ s. s.entries.items };
+
+    ghost invariant = { λ s. AreClosedEntries (laws_entries s.entries.items) × (s.numbers.keys ≡ numbers_of s.entries.items) × (bodies_in s.bodies ≡ core_bodies (laws_entries s.entries.items)) };
+}
+
+impl Signature {
+    /// No entries.
+    pub fn new(alloc: Global) -> Signature
+        ensures { result ≡ [] }
+    {
+        Signature {
+            alloc,
+            entries: Vec::new(alloc),
+            numbers: IndexSet::new(alloc),
+            bodies: Bodies::new(alloc),
+        }
+    }
+
+    /// How many entries there are.
+    pub fn len(&self) -> usize
+        ensures { result ≡ length self.now }
+    {
+        self.entries.len()
+    }
+
+    /// The entry at a place.
+    pub fn entry(&self, at: usize) -> Option<&Entry>
+        ensures { option_copied result ≡ slice_get self.now at }
+    {
+        self.entries.get(at)
+    }
+
+    /// The entry of a number.
+    pub fn find(&self, number: u32) -> Option<&Entry>
+        ensures { option_map laws_entry (option_copied result) ≡ entry_of (laws_entries self.now) number }
+    {
+        match self.numbers.get_index_of(&number) {
+            Some(at) => self.entry(at),
+            None => None,
+        }
+    }
+
+    /// The bodies of the entries.
+    pub fn bodies(&self) -> &Bodies
+        ensures are { bodies_in result.now ≡ core_bodies (laws_entries self.now) }
+        ensures closed { AreClosedEntries (laws_entries self.now) }
+    {
+        &self.bodies
+    }
+
+    /// Adds an entry whose number is new.
+    pub fn push(&mut self, entry: Entry) -> Result<(), AllocError>
+        requires new { Contains (numbers_of self.old) entry.number → ⊥ }
+        requires closed_type { loose entry.ty ≡ 0 }
+        requires closed_body { IfSome entry.body (λ body. loose body ≡ 0) }
+        ensures ok { OnOk result (self.new ≡ self.old ++ entry ∷ []) }
+        ensures err { OnErr result (self.new ≡ self.old) }
+    {
+        // Room first, so that a refusal leaves all as it was.
+        self.entries.reserve(1)?;
+        let number = entry.number;
+        let Ok(_) = self.numbers.insert(number) else {
+            return Err(AllocError);
+        };
+        let Ok(()) = keep_body(&mut self.bodies, &entry) else {
+            self.numbers.truncate(self.entries.len());
+            return Err(AllocError);
+        };
+        let Ok(()) = self.entries.push(entry) else {
+            unreachable!()
+        };
+        Ok(())
+    }
+
+    /// The allocator. No entry has a loose variable.
+    pub(crate) fn alloc(&self) -> Global
+        ensures { AreClosedEntries (laws_entries self.now) }
+    {
+        self.alloc
+    }
+}
+
+/// Keeps the body of the entry, where it has one.
+fn keep_body(bodies: &mut Bodies, entry: &Entry) -> Result<(), AllocError>
+    ensures ok { OnOk result (bodies.new ≡ with_body bodies.old entry.now.number entry.now.body) }
+    ensures err { OnErr result (bodies.new ≡ bodies.old) }
+{
+    match &entry.body {
+        Some(body) => bodies.put(entry.number, body),
+        None => Ok(()),
+    }
+}
