@@ -1,0 +1,5 @@
+pub mod Texts
+pub mod Unused
+pub mod LocalsLemmas
+pub mod NamesLemmas
+pub mod Pigeonhole

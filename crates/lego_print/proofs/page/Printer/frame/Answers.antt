@@ -1,0 +1,38 @@
+use Rattle.std.proofs.Common.{◌≡◌, ℕ, ◌<◌, true, false, length, sym, ap, ◌∙◌, arith}
+use Rattle.std.proofs.lemmas.List.{below_more}
+use Rattle.std.specs.List.{list_any}
+use Rattle.lego_print.specs.Names.{Scope, is_free, is_printed_as, numbered, wished_name, names_in_use}
+use Rattle.lego_print.specs.private.Numbered.{scope_of, printed}
+use Rattle.lego_print.proofs.NamesLemmas.{first_free_is, free_no_local}
+use Rattle.lego_print.proofs.Pigeonhole.{last_is_free}
+use Rattle.lego_print.proofs.page.Printer.frame.Goals as goal
+
+pub returns-then-is_free-clause-text : goal.returns-then-is_free-clause-text
+returns-then-is_free-clause-text g c =
+    let scope = scope_of c.args.self.now.names.now (g.E.Entries.called c.args.self.now.entries.now) (g.E.Entries.in_scope c.args.self.now.entries.now) c.args.locals.now in
+    let wished = wished_name c.args.self.now.names.now c.args.name in
+    let text : c.in_ok-text.text.items ≡ numbered wished c.loop-number.number = c.in_ok-text.ensures ∙ ap (λ w. numbered w c.loop-number.number) c.wished-wished.ensures in
+    let free : is_free scope (numbered wished c.loop-number.number) ≡ true =
+    ap (is_free scope) (sym text ∙ sym c.as_slice.ensures.value) ∙ cc (c.if-is_free.ensures) in
+    text ∙ ap (numbered wished) (sym (first_free_is scope wished c.loop-number.number ? c.loop-number.invariant (λ _. free)))
+
+pub loop-number-preserved : goal.loop-number-preserved
+loop-number-preserved g c =
+    let scope = scope_of c.args.self.now.names.now (g.E.Entries.called c.args.self.now.entries.now) (g.E.Entries.in_scope c.args.self.now.entries.now) c.args.locals.now in
+    let wished = wished_name c.args.self.now.names.now c.args.name in
+    let text : c.in_ok-text.text.items ≡ numbered wished c.loop-number.number = c.in_ok-text.ensures ∙ ap (λ w. numbered w c.loop-number.number) c.wished-wished.ensures in
+    let taken : is_free scope (numbered wished c.loop-number.number) ≡ false =
+    ap (is_free scope) (sym text ∙ sym c.as_slice.ensures.value) ∙ cc (c.if-is_free.ensures) in
+    below_more _ _ c.loop-number.invariant taken
+
+pub returns-clause-text : goal.returns-clause-text
+returns-clause-text g c =
+    let scope = scope_of c.args.self.now.names.now (g.E.Entries.called c.args.self.now.entries.now) (g.E.Entries.in_scope c.args.self.now.entries.now) c.args.locals.now in
+    let wished = wished_name c.args.self.now.names.now c.args.name in
+    ?
+
+pub returns-clause-free : goal.returns-clause-free
+returns-clause-free g c =
+    let scope = scope_of c.args.self.now.names.now (g.E.Entries.called c.args.self.now.entries.now) (g.E.Entries.in_scope c.args.self.now.entries.now) c.args.locals.now in
+    let wished = wished_name c.args.self.now.names.now c.args.name in
+    ?

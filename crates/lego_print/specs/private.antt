@@ -1,0 +1,3 @@
+pub mod Numbered
+pub mod NumberedCode
+pub mod Parts
