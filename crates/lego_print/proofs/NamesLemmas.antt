@@ -4,6 +4,7 @@ use Rattle.std.specs.Prelude.{slice_get}
 use Rattle.std.specs.List.{list_any, position_or_len, range_with_len}
 use Rattle.std.proofs.lemmas.Bool.Decides.{nat_tests}
 use Rattle.std.proofs.lemmas.Cmp.{nat_list_eq_equiv}
+use Rattle.std.proofs.lemmas.List.{length-map}
 use Rattle.std.proofs.lemmas.List.FromFn.{get_or-range_with_len, length-range_with_len}
 use Rattle.std.proofs.lemmas.List.Quantifiers.{position-Some}
 use Rattle.std.proofs.lemmas.List.Sums.{position_or_len_is}
@@ -12,6 +13,7 @@ use Rattle.lego_base.specs.Names.{same_text, AreDistinct}
 use Rattle.lego_base.proofs.NamesLemmas.{true_is_false}
 use Rattle.lego_grammar.specs.Grammar.{Names}
 use Rattle.lego_print.specs.Names.{Scope, is_text_of, is_printed_as, is_free, numbered, names_in_use, first_free}
+use Rattle.lego_print.specs.private.Numbered.{Numbered, scope_of}
 use Rattle.lego_print.proofs.Texts.{same_text_equal}
 
 eq_self : (n : ℕ) → nat_eq n n ≡ true
@@ -105,3 +107,8 @@ free_no_entry scope text free = neither (list_any (is_text_of scope.names text) 
     neither : (a b : Bool) → not (a || b) ≡ true → a ≡ false
     neither true b h = absurd (cc)
     neither false b h = refl
+
+-- how many names are in use
+pub in_use : (names : Names) (called : ℕ → Option ℕ) (entries : List ℕ) (locals : List (Option Numbered))
+    → names_in_use (scope_of names called entries locals) ≡ length entries + length locals
+in_use names called entries locals = ap (λ n. length entries + n) (length-map locals (option_map (λ (n : Numbered). n.text)))

@@ -16,7 +16,7 @@ lt_false : (m n : ℕ) → n ≤ m → nat_lt m n ≡ false
 lt_false m n l = grind (arith, nat_tests)
 
 -- a number that goes past one place
-skip : ℕ → ℕ → ℕ
+pub skip : ℕ → ℕ → ℕ
 skip k m = if nat_lt m k then m else suc m
 
 skip_low : (k m : ℕ) → m < k → skip k m ≡ m
@@ -51,7 +51,56 @@ search_below p (suc n) = by_rest (search_below p n)
     by_rest (Search.at k l h) = Search.at k (omega arith) h
     by_rest (Search.nowhere before) = by_last (p n) refl before
 
+-- going past a place
+pub skip_place : (n k m : ℕ) → k < suc n → m < n → (skip k m < suc n) × (skip k m ≢ k)
+skip_place n k m l lm = by_side (nat_lt m k) refl
+  where
+    by_side : (b : Bool) → nat_lt m k ≡ b → (skip k m < suc n) × (skip k m ≢ k)
+    by_side true e =
+        let low : m < k = grind (arith, nat_tests) in
+        let is_low = skip_low k m low in
+        (omega arith, λ same. absurd (omega arith))
+    by_side false e =
+        let high : k ≤ m = grind (arith, nat_tests) in
+        let is_high = skip_high k m high in
+        (omega arith, λ same. absurd (omega arith))
+
+pub skip_apart : (k i j : ℕ) → skip k i ≡ skip k j → i ≡ j
+skip_apart k i j e = by_sides (nat_lt i k) (nat_lt j k) refl refl
+  where
+    by_sides : (b c : Bool) → nat_lt i k ≡ b → nat_lt j k ≡ c → i ≡ j
+    by_sides true true p q = sym (skip_low k i (grind (arith, nat_tests))) ∙ e ∙ skip_low k j (grind (arith, nat_tests))
+    by_sides true false p q =
+        let low : i < k = grind (arith, nat_tests) in
+        let high : k ≤ j = grind (arith, nat_tests) in
+        let is_low = skip_low k i low in
+        let is_high = skip_high k j high in
+        absurd (omega arith)
+    by_sides false true p q =
+        let high : k ≤ i = grind (arith, nat_tests) in
+        let low : j < k = grind (arith, nat_tests) in
+        let is_low = skip_low k j low in
+        let is_high = skip_high k i high in
+        absurd (omega arith)
+    by_sides false false p q =
+        let high_i : k ≤ i = grind (arith, nat_tests) in
+        let high_j : k ≤ j = grind (arith, nat_tests) in
+        let is_i = skip_high k i high_i in
+        let is_j = skip_high k j high_j in
+        omega arith
+
 module _ {X : Type 0} (is : List ℕ → X → Bool) (one : (x : X) (a b : List ℕ) → is a x ≡ true → is b x ≡ true → a ≡ b) where
+  -- a text that differs from the one that this is, is not this
+  other : (x : X) (a b : List ℕ) → is a x ≡ true → (a ≡ b → ⊥) → is b x ≡ false
+  other x a b h ne = by_test (is b x) refl
+    where
+      by_test : (t : Bool) → is b x ≡ t → is b x ≡ false
+      by_test false e = e
+      by_test true e = absurd (ne (one x a b h e))
+
+  later : (x : X) (xs : List X) (a : List ℕ) → list_any (is a) (x ∷ xs) ≡ true → is a x ≡ false → list_any (is a) xs ≡ true
+  later x xs a any e = sym (ap (λ b. b || list_any (is a) xs) e) ∙ any
+
   -- texts that differ and are each one of these are no more than these
   pub no_more : (xs : List X) (f : ℕ → List ℕ) (n : ℕ) → ((i j : ℕ) → i < n → j < n → f i ≡ f j → i ≡ j)
       → ((m : ℕ) → m < n → list_any (is (f m)) xs ≡ true) → n ≤ length xs
@@ -61,62 +110,19 @@ module _ {X : Type 0} (is : List ℕ → X → Bool) (one : (x : X) (a b : List 
       none : false ≡ true → ⊥
       none e = cc
   no_more (x ∷ xs) f zero apart all = omega arith
-  no_more (x ∷ xs) f (suc n) apart all = by_search (search_below (λ m. is (f m) x) (suc n))
+  no_more (x ∷ xs) f (suc n) apart all = by_search (λ g m p q. no_more xs g m p q) (search_below (λ m. is (f m) x) (suc n))
     where
-      later : (m : ℕ) → m < suc n → is (f m) x ≡ false → list_any (is (f m)) xs ≡ true
-      later m l e = sym (ap (λ b. b || list_any (is (f m)) xs) e) ∙ all m l
-
-      module _ (k : ℕ) (l : k < suc n) (h : is (f k) x ≡ true) where
-        other : (m : ℕ) → m < suc n → m ≢ k → is (f m) x ≡ false
-        other m lm ne = by_test (is (f m) x) refl
-          where
-            by_test : (b : Bool) → is (f m) x ≡ b → is (f m) x ≡ false
-            by_test false e = e
-            by_test true e = absurd (ne (apart m k lm l (one x (f m) (f k) e h)))
-
-        place : (m : ℕ) → m < n → (skip k m < suc n) × (skip k m ≢ k)
-        place m lm = by_side (nat_lt m k) refl
-          where
-            by_side : (b : Bool) → nat_lt m k ≡ b → (skip k m < suc n) × (skip k m ≢ k)
-            by_side true e =
-                let low : m < k = grind (arith, nat_tests) in
-                let is_low = skip_low k m low in
-                (omega arith, λ same. absurd (omega arith))
-            by_side false e =
-                let high : k ≤ m = grind (arith, nat_tests) in
-                let is_high = skip_high k m high in
-                (omega arith, λ same. absurd (omega arith))
-
-        skip_apart : (i j : ℕ) → skip k i ≡ skip k j → i ≡ j
-        skip_apart i j e = by_sides (nat_lt i k) (nat_lt j k) refl refl
-          where
-            by_sides : (b c : Bool) → nat_lt i k ≡ b → nat_lt j k ≡ c → i ≡ j
-            by_sides true true p q = sym (skip_low k i (grind (arith, nat_tests))) ∙ e ∙ skip_low k j (grind (arith, nat_tests))
-            by_sides true false p q =
-                let low : i < k = grind (arith, nat_tests) in
-                let high : k ≤ j = grind (arith, nat_tests) in
-                let is_low = skip_low k i low in
-                let is_high = skip_high k j high in
-                absurd (omega arith)
-            by_sides false true p q =
-                let high : k ≤ i = grind (arith, nat_tests) in
-                let low : j < k = grind (arith, nat_tests) in
-                let is_low = skip_low k j low in
-                let is_high = skip_high k i high in
-                absurd (omega arith)
-            by_sides false false p q =
-                let is_i = skip_high k i (grind (arith, nat_tests)) in
-                let is_j = skip_high k j (grind (arith, nat_tests)) in
-                omega arith
-
-      by_search : Search (λ m. is (f m) x) (suc n) → suc n ≤ suc (length xs)
-      by_search (Search.nowhere before) =
-          let rest = no_more xs f (suc n) apart (λ m l. later m l (before m l)) in
+      by_search : ((g : ℕ → List ℕ) (m : ℕ) → ((i j : ℕ) → i < m → j < m → g i ≡ g j → i ≡ j) → ((i : ℕ) → i < m → list_any (is (g i)) xs ≡ true) → m ≤ length xs)
+          → Search (λ m. is (f m) x) (suc n) → suc n ≤ suc (length xs)
+      by_search others (Search.nowhere before) =
+          let rest = others f (suc n) apart (λ m l. later x xs (f m) (all m l) (before m l)) in
           omega arith
-      by_search (Search.at k l h) =
-          let rest = no_more xs (λ m. f (skip k m)) n
-          (λ i j li lj e. skip_apart k l h i j (apart (skip k i) (skip k j) (place k l h i li).0 (place k l h j lj).0 e))
-          (λ m lm. let p = place k l h m lm in later (skip k m) p.0 (other k l h (skip k m) p.0 p.1)) in
+      by_search others (Search.at k l h) =
+          let rest = others (λ m. f (skip k m)) n
+          (λ i j li lj e. skip_apart k i j (apart (skip k i) (skip k j) (skip_place n k i l li).0 (skip_place n k j l lj).0 e))
+          (λ m lm.
+          let p = skip_place n k m l lm in
+          later x xs (f (skip k m)) (all (skip k m) p.0) (other x (f k) (f (skip k m)) h (λ e. p.1 (apart (skip k m) k p.0 l (sym e))))) in
           omega arith
 
 -- numbers behind one name make texts that differ
@@ -132,11 +138,17 @@ module _ (wished : List ℕ) where
   no_digits : (n : ℕ) → n < 2 ^ 64 → decimal n ≡ [] → ⊥
   no_digits n l e = let some = decimal_nonempty n l in let none : length (decimal n) ≡ 0 = ap length e in absurd (omega arith)
 
+  pub numbered_suc : (n : ℕ) → numbered wished (suc n) ≡ wished ++ decimal (suc n)
+  numbered_suc n =
+      let e : nat_eq (suc n) 0 ≡ false = grind (arith, nat_tests) in
+      ap (λ b. if b then wished else wished ++ decimal (suc n)) e
+
   pub numbered_apart : (i j : ℕ) → i < 2 ^ 64 → j < 2 ^ 64 → numbered wished i ≡ numbered wished j → i ≡ j
   numbered_apart zero zero li lj e = refl
-  numbered_apart zero (suc j) li lj e = absurd (no_digits (suc j) lj (longer wished (decimal (suc j)) (sym e)))
-  numbered_apart (suc i) zero li lj e = absurd (no_digits (suc i) li (longer wished (decimal (suc i)) e))
-  numbered_apart (suc i) (suc j) li lj e = decimal_injective (suc i) (suc j) li lj (same_end wished (decimal (suc i)) (decimal (suc j)) e)
+  numbered_apart zero (suc j) li lj e = absurd (no_digits (suc j) lj (longer wished (decimal (suc j)) (sym (e ∙ numbered_suc j))))
+  numbered_apart (suc i) zero li lj e = absurd (no_digits (suc i) li (longer wished (decimal (suc i)) (sym (numbered_suc i) ∙ e)))
+  numbered_apart (suc i) (suc j) li lj e =
+      decimal_injective (suc i) (suc j) li lj (same_end wished (decimal (suc i)) (decimal (suc j)) (sym (numbered_suc i) ∙ (e ∙ numbered_suc j)))
 
 -- a name in use: that of an entry, or of a local variable
 pub data InUse : Type 0 where
