@@ -3,3 +3,4 @@ pub mod Unused
 pub mod LocalsLemmas
 pub mod NamesLemmas
 pub mod Pigeonhole
+pub mod ReadTokens

@@ -1,3 +1,6 @@
 pub mod Names
 pub mod Texts
+pub mod Headings
+pub mod Entries
+pub mod ReadBack
 pub mod private

@@ -1,11 +1,13 @@
 -- The texts of terms, a clause for each form: the ranks of the parts stand before them.
-use Rattle.std.specs.Prelude.{ℕ, nat_lt, Bool, not, ◌&&◌, ◌||◌, if◌then◌else◌, List, [], ◌∷◌, ◌++◌, codes, decimal, Option, Some, None, option_map, unwrap_or, option_and_then, slice_get}
+use Rattle.std.specs.Prelude.{ℕ, nat_lt, Bool, not, ◌&&◌, ◌||◌, if◌then◌else◌, List, [], ◌∷◌, ◌++◌, codes, decimal, Option, Some, None, option_map, unwrap_or, option_and_then, slice_get, fold}
 use Rattle.lego_term.specs.Levels.{level_value}
 use Rattle.lego_term.specs.Trees.{Core, Var, Const, Prop, Univ, Pi, Lam, App, Sigma, Pair, Fst, Snd, Let, uses_variable}
 use Rattle.lego_term.specs.declared.binder.Binder.{Binder}
 use Rattle.lego_term.specs.declared.binder.Mark.{Mark}
 use Rattle.lego_term.specs.declared.binder.Mark.TheVariants.{Plain, Implicit}
 use Rattle.lego_term.specs.declared.level.Level.{Level}
+use Rattle.lego_term.specs.declared.seen.Seen.{Seen}
+use Rattle.lego_grammar.specs.Grammar.{Names}
 use Rattle.lego_print.specs.declared.shown.Shown.{Shown}
 use Rattle.lego_print.specs.declared.shown.Shown.TheVariants.{Least, Hidden}
 use Rattle.lego_print.specs.Names.{Scope, name_text, printed_name, wished_name, under}
@@ -89,3 +91,15 @@ term_text levels scope wanted (Snd m) = term_text levels scope 3 m ++ codes ".2"
 term_text levels scope wanted (Let x m n) =
     ranked 0 wanted
     (codes "[" ++ binder_name scope x.name ++ codes "=" ++ term_text levels scope 0 m ++ codes "]" ++ term_text levels (bound scope x.name) 0 n)
+
+-- a scope without local variables
+abbrev pub outer_scope : Names → (ℕ → Option ℕ) → List ℕ → Scope
+outer_scope names constant entries = record { names = names; constant = constant; entries = entries; locals = [] }
+
+-- the scope under these binders, the outermost first, each of which gets a printed name
+abbrev pub under_all : Scope → List Binder → Scope
+under_all scope xs = fold (λ s (x : Binder). bound s x.name) scope xs
+
+-- a term under the binders around it
+abbrev pub seen_text : Shown → Scope → Seen → List ℕ
+seen_text levels scope seen = term_text levels (under_all scope seen.under) 0 seen.term

@@ -2,13 +2,21 @@
 #![tactic(auto)]
 
 mod entries;
+mod heading;
+mod item;
+mod laws;
 mod locals;
 mod page;
 mod pieces;
 mod shown;
 mod term;
+mod text;
 mod used;
 
 pub use entries::Entries;
+pub use heading::Heading;
+pub use item::Item;
+pub use laws::printed_terms_read_back;
 pub use shown::Shown;
+pub use text::{entry_command, entry_text, term_text};
 

@@ -1,5 +1,5 @@
 //! What is printed so far, and the names that binders get.
-ghost use Rattle.std.specs.Prelude.{◌≡◌, false, IfOk, length};
+ghost use Rattle.std.specs.Prelude.{◌≡◌, [], false, IfOk};
 ghost use Rattle.std.specs.List.{list_any};
 ghost use Rattle.lego_print.specs.Names.{numbered, is_free, is_text_of, is_printed_as, printed_name, wished_name};
 ghost use Rattle.lego_print.specs.private.Numbered.{scope_of, printed};
@@ -12,6 +12,7 @@ use lego_base::Names;
 use std::alloc::{AllocError, Global};
 
 /// What texts are made with: the numbered names, the entries, and how levels are shown.
+#[derive(Drop)]
 pub(crate) struct Printer<'a, E> {
     pub alloc: Global,
     pub names: &'a Names,
@@ -24,6 +25,19 @@ pub(crate) struct Printer<'a, E> {
 pub(crate) struct Page {
     pub text: Vec<u8>,
     pub locals: Locals,
+}
+
+impl Page {
+    /// No text, and no local variables.
+    pub fn new(alloc: Global) -> Page
+        ensures text { result.text.items ≡ [] }
+        ensures locals { result.locals ≡ [] }
+    {
+        Page {
+            text: Vec::new(alloc),
+            locals: Locals::new(alloc),
+        }
+    }
 }
 
 /// The wished name with a number behind it, or alone where the number is 0.
