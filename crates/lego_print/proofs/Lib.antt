@@ -4,3 +4,4 @@ pub mod LocalsLemmas
 pub mod NamesLemmas
 pub mod Pigeonhole
 pub mod ReadTokens
+pub mod ReadParts

@@ -43,6 +43,26 @@ no_comment b (c ∷ bytes) h = ap (λ v. v && nat_eq c 42) h
 pub begins_there : (b : ℕ) (bytes : List ℕ) → is_blank b ≡ false → nat_eq b 40 ≡ false → BeginsToken (b ∷ bytes)
 begins_there b bytes blank other = record { no_blank = blank; no_comment = no_comment b bytes other }
 
+-- no symbol goes on in a name
+pub symbol_stops : (s : Symbol) (rest : List ℕ) → Stops goes_on_in_name (symbol_text s ++ rest)
+symbol_stops OpenSquare rest = stops_at 91 rest refl
+symbol_stops CloseSquare rest = stops_at 93 rest refl
+symbol_stops OpenBrace rest = stops_at 123 rest refl
+symbol_stops CloseBrace rest = stops_at 125 rest refl
+symbol_stops OpenAngle rest = stops_at 60 rest refl
+symbol_stops CloseAngle rest = stops_at 62 rest refl
+symbol_stops OpenParen rest = stops_at 40 rest refl
+symbol_stops CloseParen rest = stops_at 41 rest refl
+symbol_stops Colon rest = stops_at 58 rest refl
+symbol_stops Semicolon rest = stops_at 59 rest refl
+symbol_stops Comma rest = stops_at 44 rest refl
+symbol_stops Equals rest = stops_at 61 rest refl
+symbol_stops Dot rest = stops_at 46 rest refl
+symbol_stops Hash rest = stops_at 35 rest refl
+symbol_stops Question rest = stops_at 63 rest refl
+symbol_stops Arrow rest = stops_at 45 (62 ∷ rest) refl
+symbol_stops Bar rest = stops_at 124 rest refl
+
 -- no comment begins where the text stands behind a `(`
 pub IsNoStar : List ℕ → Type 0
 IsNoStar text = (more : List ℕ) → begins_comment (40 ∷ (text ++ more)) ≡ false

@@ -1,0 +1,5 @@
+use Rattle.lego_print.proofs.ReadParts.{level_read, projected, parens_read, binder_parts, blank_parts, two_parts, prop_read, name_read}
+use Rattle.lego_print.proofs.laws.printed_terms_read_back.Goals as goal
+
+pub returns : goal.returns
+returns c = ?
