@@ -5,3 +5,5 @@ pub mod NamesLemmas
 pub mod Pigeonhole
 pub mod ReadTokens
 pub mod ReadParts
+pub mod FreeNames
+pub mod ReadLocals

@@ -21,28 +21,28 @@ use Rattle.lego_grammar.specs.declared.surface.Kind.{Kind}
 use Rattle.lego_grammar.specs.declared.surface.Kind.TheVariants as Kinds
 use Rattle.lego_grammar.specs.declared.surface.Part.{Part}
 use Rattle.lego_grammar.specs.Scopes.{LocalVariable, Scope, no_variables}
-use Rattle.lego_grammar.specs.Reading.{ReadsExplicitly, bind_core, project_core}
+use Rattle.lego_grammar.specs.Reading.{ReadsExplicitly, Annotates, bind_core, project_core, is_sigma}
 use Rattle.lego_grammar.specs.Denotes.{MarkedTerm, grammar_tokens}
 use Rattle.lego_print.specs.ReadBack.{marked, IsHeldText}
 use Rattle.lego_print.proofs.ReadTokens.{here, after, same_join, stops_at, symbol_stops, IsNoStar, no_star_at, MayStand, IsToken, symbol_stands, lex_token, IsNameText, name_text_is, name_stands, IsNumberText, number_stands, number_star, blank_first}
 
 -- the text, with the rest behind it, is lexed, parsed in a form, and read as the term
-pub record IsRead (names : Names) (es : List Entry) (locals : Scope) (d : ℕ) (form : Form) (at : Point) (text rest : List ℕ) (c : MarkedTerm) : Type 0 where
+pub record IsRead (names : Names) (es : List Entry) (locals : Scope) (d : ℕ) (form : Form) (at : Point) (text rest : List ℕ) (core : Core) : Type 0 where
   pub first : Placed
   pub others : List Placed
   pub end : Point
   pub nested : List Nested
   pub written : Written
-  pub core : Core
   pub lexed : Lexes at (text ++ rest) (first ∷ others) end rest
   pub same : map item nested ≡ grammar_tokens (first ∷ others)
   pub parsed : Parse names d form nested written
   pub read : ReadsExplicitly es no_variables locals written core
-  pub is : marked [] core ≡ c
 
 -- so wherever it stands
 pub record CanRead (names : Names) (es : List Entry) (locals : Scope) (form : Form) (text : List ℕ) (c : MarkedTerm) : Type 0 where
-  pub reads : (d : ℕ) (at : Point) (rest : List ℕ) → Stops goes_on_in_name rest → IsRead names es locals d form at text rest c
+  pub core : Core
+  pub is : marked [] core ≡ c
+  pub reads : (d : ℕ) (at : Point) (rest : List ℕ) → Stops goes_on_in_name rest → IsRead names es locals d form at text rest core
 
 -- the term of a binder
 abbrev pub bind_marked : Kind → Mark → MarkedTerm → MarkedTerm → MarkedTerm
@@ -56,19 +56,17 @@ bind-marked Kinds.Pi x a b s t p q = rw (p, q) refl
 bind-marked Kinds.Sigma x a b s t p q = rw (p, q) refl
 
 -- what two parts are together
-pub record IsJoined (names : Names) (es : List Entry) (locals : Scope) (d : ℕ) (form : Form) (nested : List Nested) (c : MarkedTerm) : Type 0 where
+pub record IsJoined (names : Names) (es : List Entry) (locals : Scope) (d : ℕ) (form : Form) (nested : List Nested) (core : Core) : Type 0 where
   pub written : Written
-  pub core : Core
   pub parsed : Parse names d form nested written
   pub read : ReadsExplicitly es no_variables locals written core
-  pub is : marked [] core ≡ c
 
 module _ (names : Names) (es : List Entry) where
   -- a form that is another one
   pub as_form : {locals : Scope} {form other : Form} {text : List ℕ} {c : MarkedTerm}
       → ((d : ℕ) (ns : List Nested) (w : Written) → Parse names d form ns w → Parse names d other ns w)
       → CanRead names es locals form text c → CanRead names es locals other text c
-  as_form f r = record { reads = λ d at rest stops.
+  as_form f r = record { core = r.core; is = r.is; reads = λ d at rest stops.
       let R = r.reads d at rest stops in
       record {
         first = R.first;
@@ -76,12 +74,10 @@ module _ (names : Names) (es : List Entry) where
         end = R.end;
         nested = R.nested;
         written = R.written;
-        core = R.core;
         lexed = R.lexed;
         same = R.same;
         parsed = f d R.nested R.written R.parsed;
         read = R.read;
-        is = R.is;
       } }
 
   -- another text that is the same
@@ -94,19 +90,17 @@ module _ (names : Names) (es : List Entry) where
       → ((d : ℕ) (at : Point) → Parse names d Atom (token d at.place lexeme ∷ []) (written at))
       → ((at : Point) → ReadsExplicitly es no_variables locals (written at) core) → marked [] core ≡ c
       → CanRead names es locals Atom text c
-  one_token text lexeme written core c stands parsed read is = record { reads = λ d at rest stops.
+  one_token text lexeme written core c stands parsed read is = record { core = core; is = is; reads = λ d at rest stops.
       record {
         first = here at text lexeme;
         others = [];
         end = after at text;
         nested = token d at.place lexeme ∷ [];
         written = written at;
-        core = core;
         lexed = lex_token text rest (stands rest stops) Lexes.none;
         same = refl;
         parsed = parsed d at;
         read = read at;
-        is = is;
       } }
 
   pub name_read : {locals : Scope} (text : List ℕ) (h : IsHeldText names text) (core : Core) (c : MarkedTerm) → IsNameText text
@@ -124,15 +118,16 @@ module _ (names : Names) (es : List Entry) where
 
   -- two parts with a symbol between
   module _ {locals inner : Scope} (form left right : Form) (s : Symbol) (a b : List ℕ) (x y c : MarkedTerm) (down : ℕ → ℕ) where
-    pub two_parts : ((rest : List ℕ) → MayStand s rest)
-        → ((d : ℕ) (p : Place) (ts us : List Nested) (w u : Written) (m n : Core) → Parse names d left ts w → Parse names (down d) right us u
-          → ReadsExplicitly es no_variables locals w m → ReadsExplicitly es no_variables inner u n → marked [] m ≡ x → marked [] n ≡ y
-          → IsJoined names es locals d form (ts ++ symbol d p s ∷ us) c)
-        → CanRead names es locals left a x → CanRead names es inner right b y → CanRead names es locals form ((a ++ symbol_text s) ++ b) c
-    two_parts may join ra rb = record { reads = λ d at rest stops.
+    pub two_parts : ((rest : List ℕ) → MayStand s rest) → (ra : CanRead names es locals left a x) → (rb : CanRead names es inner right b y)
+        → (core : Core) → marked [] core ≡ c
+        → ((d : ℕ) (p : Place) (ts us : List Nested) (w u : Written) → Parse names d left ts w → Parse names (down d) right us u
+          → ReadsExplicitly es no_variables locals w ra.core → ReadsExplicitly es no_variables inner u rb.core
+          → IsJoined names es locals d form (ts ++ symbol d p s ∷ us) core)
+        → CanRead names es locals form ((a ++ symbol_text s) ++ b) c
+    two_parts may ra rb core is join = record { core = core; is = is; reads = λ d at rest stops.
         let A = ra.reads d at (symbol_text s ++ (b ++ rest)) (symbol_stops s (b ++ rest)) in
         let B = rb.reads (down d) (after A.end (symbol_text s)) rest stops in
-        let J = join d A.end.place A.nested B.nested A.written B.written A.core B.core A.parsed B.parsed A.read B.read A.is B.is in
+        let J = join d A.end.place A.nested B.nested A.written B.written A.parsed B.parsed A.read B.read in
         let middle = here A.end (symbol_text s) (OfSymbol s) in
         let whole : ((a ++ symbol_text s) ++ b) ++ rest ≡ a ++ (symbol_text s ++ (b ++ rest)) = simp append_assoc in
         record {
@@ -141,20 +136,18 @@ module _ (names : Names) (es : List Entry) where
           end = B.end;
           nested = A.nested ++ symbol d A.end.place s ∷ B.nested;
           written = J.written;
-          core = J.core;
           lexed = subst (λ (t : List ℕ). Lexes at t (A.first ∷ (A.others ++ middle ∷ (B.first ∷ B.others))) B.end rest) (sym whole)
               (reads_join A.lexed (lex_token (symbol_text s) (b ++ rest) (symbol_stands s (b ++ rest) (may (b ++ rest))) B.lexed));
           same = same_join A.nested (symbol d A.end.place s ∷ B.nested) (A.first ∷ A.others) (middle ∷ (B.first ∷ B.others)) A.same
               (ap (λ (ts : List Item). record { lexeme = OfSymbol s; place = A.end.place } ∷ ts) B.same);
           parsed = J.parsed;
           read = J.read;
-          is = J.is;
         } }
 
   -- a part, a blank, and another part
   pub blank_parts : {locals : Scope} (f a : List ℕ) (x y : MarkedTerm) → CanRead names es locals Spine f x → CanRead names es locals Post a y
       → CanRead names es locals Spine ((f ++ 32 ∷ []) ++ a) (App Plain x y)
-  blank_parts {locals} f a x y rf ra = record { reads = λ d at rest stops.
+  blank_parts {locals} f a x y rf ra = record { core = App Plain rf.core ra.core; is = rw (rf.is, ra.is) refl; reads = λ d at rest stops.
       let F = rf.reads d at (32 ∷ (a ++ rest)) (stops_at 32 (a ++ rest) refl) in
       let A = ra.reads d (past F.end (32 ∷ [])) rest stops in
       let whole : ((f ++ 32 ∷ []) ++ a) ++ rest ≡ f ++ 32 ∷ (a ++ rest) = simp append_assoc in
@@ -164,28 +157,26 @@ module _ (names : Names) (es : List Entry) where
         end = A.end;
         nested = F.nested ++ A.nested;
         written = Apply Plain F.written A.written;
-        core = App Plain F.core A.core;
         lexed = subst (λ (t : List ℕ). Lexes at t (F.first ∷ (F.others ++ (A.first ∷ A.others))) A.end rest) (sym whole) (reads_join F.lexed (blank_first A.lexed));
         same = same_join F.nested A.nested (F.first ∷ F.others) (A.first ∷ A.others) F.same A.same;
         parsed = Parse.apply F.parsed A.parsed;
         read = ReadsExplicitly.apply F.read A.read;
-        is = rw (F.is, A.is) refl;
       } }
 
   -- a binder: brackets around a name, a sign and a part, and a body behind them
   module _ {locals inner : Scope} (o sg cl : Symbol) (name a b : List ℕ) (h : IsHeldText names name) (n : IsNameText name) (x y c : MarkedTerm) where
     pub binder_parts : ((rest : List ℕ) → MayStand o (name ++ rest)) → ((rest : List ℕ) → MayStand sg rest) → ((rest : List ℕ) → MayStand cl rest)
-        → ((d : ℕ) (p q r e : Place) (ts us : List Nested) (w u : Written) (m k : Core) → Parse names (suc d) Term ts w → Parse names (suc d) Term us u
-          → ReadsExplicitly es no_variables locals w m → ReadsExplicitly es no_variables inner u k → marked [] m ≡ x → marked [] k ≡ y
-          → IsJoined names es locals d Form.Binder (symbol d p o ∷ token (suc d) q (Name name) ∷ symbol (suc d) r sg ∷ (ts ++ symbol d e cl ∷ us)) c)
-        → CanRead names es locals Term a x → CanRead names es inner Term b y
+        → (ra : CanRead names es locals Term a x) → (rb : CanRead names es inner Term b y) → (core : Core) → marked [] core ≡ c
+        → ((d : ℕ) (p q r e : Place) (ts us : List Nested) (w u : Written) → Parse names (suc d) Term ts w → Parse names (suc d) Term us u
+          → ReadsExplicitly es no_variables locals w ra.core → ReadsExplicitly es no_variables inner u rb.core
+          → IsJoined names es locals d Form.Binder (symbol d p o ∷ token (suc d) q (Name name) ∷ symbol (suc d) r sg ∷ (ts ++ symbol d e cl ∷ us)) core)
         → CanRead names es locals Form.Binder (((((symbol_text o ++ name) ++ symbol_text sg) ++ a) ++ symbol_text cl) ++ b) c
-    binder_parts may_o may_sg may_cl join ra rb = record { reads = λ d at rest stops.
+    binder_parts may_o may_sg may_cl ra rb core is join = record { core = core; is = is; reads = λ d at rest stops.
         let at1 = after at (symbol_text o) in
         let at2 = after at1 name in
         let A = ra.reads (suc d) (after at2 (symbol_text sg)) (symbol_text cl ++ (b ++ rest)) (symbol_stops cl (b ++ rest)) in
         let B = rb.reads (suc d) (after A.end (symbol_text cl)) rest stops in
-        let J = join d at.place at1.place at2.place A.end.place A.nested B.nested A.written B.written A.core B.core A.parsed B.parsed A.read B.read A.is B.is in
+        let J = join d at.place at1.place at2.place A.end.place A.nested B.nested A.written B.written A.parsed B.parsed A.read B.read in
         let close = here A.end (symbol_text cl) (OfSymbol cl) in
         let behind_sign = a ++ (symbol_text cl ++ (b ++ rest)) in
         let all : List Placed = here at1 name (Name name) ∷ here at2 (symbol_text sg) (OfSymbol sg) ∷ (A.first ∷ (A.others ++ close ∷ (B.first ∷ B.others))) in
@@ -196,7 +187,6 @@ module _ (names : Names) (es : List Entry) where
           end = B.end;
           nested = symbol d at.place o ∷ token (suc d) at1.place (Name name) ∷ symbol (suc d) at2.place sg ∷ (A.nested ++ symbol d A.end.place cl ∷ B.nested);
           written = J.written;
-          core = J.core;
           lexed = subst (λ (t : List ℕ). Lexes at t (here at (symbol_text o) (OfSymbol o) ∷ all) B.end rest) (sym whole)
               (lex_token (symbol_text o) (name ++ (symbol_text sg ++ behind_sign)) (symbol_stands o (name ++ (symbol_text sg ++ behind_sign)) (may_o (symbol_text sg ++ behind_sign)))
               (lex_token name (symbol_text sg ++ behind_sign) (name_stands name (symbol_text sg ++ behind_sign) (Name name) n (symbol_stops sg behind_sign) h.is_name)
@@ -207,13 +197,12 @@ module _ (names : Names) (es : List Entry) where
               (ap (λ (ts : List Item). record { lexeme = OfSymbol cl; place = A.end.place } ∷ ts) B.same));
           parsed = J.parsed;
           read = J.read;
-          is = J.is;
         } }
 
   -- a term in parentheses
   pub parens_read : {locals : Scope} (a : List ℕ) (c : MarkedTerm) → IsNoStar a → CanRead names es locals Term a c
       → CanRead names es locals Atom (((40 ∷ []) ++ a) ++ 41 ∷ []) c
-  parens_read {locals} a c star ra = record { reads = λ d at rest stops.
+  parens_read {locals} a c star ra = record { core = ra.core; is = ra.is; reads = λ d at rest stops.
       let A = ra.reads (suc d) (after at (40 ∷ [])) (41 ∷ rest) (stops_at 41 rest refl) in
       let close = here A.end (41 ∷ []) (OfSymbol CloseParen) in
       let whole : (((40 ∷ []) ++ a) ++ 41 ∷ []) ++ rest ≡ 40 ∷ (a ++ 41 ∷ rest) = simp append_assoc in
@@ -223,7 +212,6 @@ module _ (names : Names) (es : List Entry) where
         end = after A.end (41 ∷ []);
         nested = symbol d at.place OpenParen ∷ (A.nested ++ symbol d A.end.place CloseParen ∷ []);
         written = A.written;
-        core = A.core;
         lexed = subst (λ (t : List ℕ). Lexes at t (here at (40 ∷ []) (OfSymbol OpenParen) ∷ (A.first ∷ (A.others ++ close ∷ []))) (after A.end (41 ∷ [])) rest) (sym whole)
             (lex_token (40 ∷ []) (a ++ 41 ∷ rest) (symbol_stands OpenParen (a ++ 41 ∷ rest) (no_star_at a (41 ∷ rest) star))
             (reads_join A.lexed (lex_token (41 ∷ []) rest (symbol_stands CloseParen rest tt) Lexes.none)));
@@ -231,7 +219,6 @@ module _ (names : Names) (es : List Entry) where
             (same_join A.nested (symbol d A.end.place CloseParen ∷ []) (A.first ∷ A.others) (close ∷ []) A.same refl);
         parsed = Parse.parens at.place A.end.place A.parsed;
         read = A.read;
-        is = A.is;
       } }
 
   -- a projection
@@ -240,7 +227,7 @@ module _ (names : Names) (es : List Entry) where
         → ((d : ℕ) (p q : Place) (ts : List Nested) (w : Written) → Parse names d Post ts w → Parse names d Post (ts ++ symbol d p Dot ∷ token d q (Number digit) ∷ []) (Project part w))
         → ((m : Core) → marked [] m ≡ x → marked [] (project_core part m) ≡ c)
         → CanRead names es locals Post a x → CanRead names es locals Post (a ++ 46 ∷ (48 + digit) ∷ []) c
-    projected stands parse is ra = record { reads = λ d at rest stops.
+    projected stands parse is ra = record { core = project_core part ra.core; is = is ra.core ra.is; reads = λ d at rest stops.
         let A = ra.reads d at (46 ∷ (48 + digit) ∷ rest) (stops_at 46 ((48 + digit) ∷ rest) refl) in
         let dot = here A.end (46 ∷ []) (OfSymbol Dot) in
         let number = here (after A.end (46 ∷ [])) ((48 + digit) ∷ []) (Number digit) in
@@ -250,7 +237,6 @@ module _ (names : Names) (es : List Entry) where
           end = after (after A.end (46 ∷ [])) ((48 + digit) ∷ []);
           nested = A.nested ++ symbol d A.end.place Dot ∷ token d (after A.end (46 ∷ [])).place (Number digit) ∷ [];
           written = Project part A.written;
-          core = project_core part A.core;
           lexed = subst (λ (t : List ℕ). Lexes at t (A.first ∷ (A.others ++ dot ∷ number ∷ [])) (after (after A.end (46 ∷ [])) ((48 + digit) ∷ [])) rest)
               (sym (append_assoc a (46 ∷ (48 + digit) ∷ []) rest))
               (reads_join A.lexed (lex_token (46 ∷ []) ((48 + digit) ∷ rest) (symbol_stands Dot ((48 + digit) ∷ rest) tt)
@@ -258,13 +244,12 @@ module _ (names : Names) (es : List Entry) where
           same = same_join A.nested (symbol d A.end.place Dot ∷ token d (after A.end (46 ∷ [])).place (Number digit) ∷ []) (A.first ∷ A.others) (dot ∷ number ∷ []) A.same refl;
           parsed = parse d A.end.place (after A.end (46 ∷ [])).place A.nested A.written A.parsed;
           read = ReadsExplicitly.project A.read;
-          is = is A.core A.is;
         } }
 
   -- a universe with its level
   pub level_read : {locals : Scope} (digits : List ℕ) (n : ℕ) → IsNumberText digits n
       → CanRead names es locals Atom (((84 ∷ 121 ∷ 112 ∷ 101 ∷ 40 ∷ []) ++ digits) ++ 41 ∷ []) (Univ n)
-  level_read {locals} digits n t = record { reads = λ d at rest stops.
+  level_read {locals} digits n t = record { core = Univ (fixed_level n); is = let e : 0 + n ≡ n = omega arith in ap (λ (k : ℕ). Univ k) e; reads = λ d at rest stops.
       let type : List ℕ = 84 ∷ 121 ∷ 112 ∷ 101 ∷ [] in
       let at1 = after at type in
       let at2 = after at1 (40 ∷ []) in
@@ -278,7 +263,6 @@ module _ (names : Names) (es : List Entry) where
         end = after at3 (41 ∷ []);
         nested = word d at.place Word.AnyType ∷ symbol d at1.place OpenParen ∷ token (suc d) at2.place (Number n) ∷ symbol d at3.place CloseParen ∷ [];
         written = TypeAt n;
-        core = Univ (fixed_level n);
         lexed = subst (λ (t : List ℕ). Lexes at t (word_is ∷ all) (after at3 (41 ∷ [])) rest) (sym whole)
             (lex_token type (40 ∷ (digits ++ 41 ∷ rest)) (name_stands type (40 ∷ (digits ++ 41 ∷ rest)) (OfWord Word.AnyType) (name_text_is type refl) (stops_at 40 (digits ++ 41 ∷ rest) refl) refl)
             (lex_token (40 ∷ []) (digits ++ 41 ∷ rest) (symbol_stands OpenParen (digits ++ 41 ∷ rest) (no_star_at digits (41 ∷ rest) (number_star digits n t)))
@@ -287,5 +271,47 @@ module _ (names : Names) (es : List Entry) where
         same = refl;
         parsed = Parse.type_at at.place at1.place at2.place at3.place;
         read = ReadsExplicitly.type_at;
-        is = let e : 0 + n ≡ n = omega arith in ap (λ (k : ℕ). Univ k) e;
       } }
+
+  -- a pair, whose written type is read as a Sigma type
+  module _ {locals : Scope} (m n a : List ℕ) (x y s t : MarkedTerm) (star : IsNoStar m) where
+    pub pair_read : CanRead names es locals Term m x → CanRead names es locals Term n y → (ra : CanRead names es locals Term a (Sigma Plain s t)) → (z : Binder) (k l : Core)
+        → ra.core ≡ Sigma z k l → CanRead names es locals Atom ((((((40 ∷ []) ++ m) ++ 44 ∷ []) ++ n) ++ 58 ∷ []) ++ a ++ 41 ∷ []) (Pair Plain s t x y)
+    pair_read rm rn ra z k l sigma = record {
+      core = Pair z k l rm.core rn.core;
+      is = let e : marked [] (Sigma z k l) ≡ Sigma Plain s t = ap (marked []) (sym sigma) ∙ ra.is in
+          let p = rm.is in let q = rn.is in cc;
+      reads = λ d at rest stops.
+        let at1 = after at (40 ∷ []) in
+        let M = rm.reads (suc d) at1 (44 ∷ (n ++ 58 ∷ (a ++ 41 ∷ rest))) (stops_at 44 (n ++ 58 ∷ (a ++ 41 ∷ rest)) refl) in
+        let N = rn.reads (suc d) (after M.end (44 ∷ [])) (58 ∷ (a ++ 41 ∷ rest)) (stops_at 58 (a ++ 41 ∷ rest) refl) in
+        let A = ra.reads (suc d) (after N.end (58 ∷ [])) (41 ∷ rest) (stops_at 41 rest refl) in
+        let comma = here M.end (44 ∷ []) (OfSymbol Comma) in
+        let colon = here N.end (58 ∷ []) (OfSymbol Colon) in
+        let close = here A.end (41 ∷ []) (OfSymbol CloseParen) in
+        let behind_m : List Placed = comma ∷ (N.first ∷ (N.others ++ colon ∷ (A.first ∷ (A.others ++ close ∷ [])))) in
+        let nested_m : List Nested = symbol (suc d) M.end.place Comma ∷ (N.nested ++ symbol (suc d) N.end.place Colon ∷ (A.nested ++ symbol d A.end.place CloseParen ∷ [])) in
+        let assoc : symbol d at.place OpenParen ∷ M.nested ++ symbol (suc d) M.end.place Comma ∷ N.nested ++ symbol (suc d) N.end.place Colon ∷ A.nested ++ symbol d A.end.place CloseParen ∷ []
+          ≡ symbol d at.place OpenParen ∷ (M.nested ++ nested_m) = simp append_assoc in
+        let whole : ((((((40 ∷ []) ++ m) ++ 44 ∷ []) ++ n) ++ 58 ∷ []) ++ a ++ 41 ∷ []) ++ rest ≡ 40 ∷ (m ++ 44 ∷ (n ++ 58 ∷ (a ++ 41 ∷ rest))) = simp append_assoc in
+        record {
+          first = here at (40 ∷ []) (OfSymbol OpenParen);
+          others = M.first ∷ (M.others ++ behind_m);
+          end = after A.end (41 ∷ []);
+          nested = symbol d at.place OpenParen ∷ (M.nested ++ nested_m);
+          written = Pairs M.written N.written A.written;
+          lexed = subst (λ (u : List ℕ). Lexes at u (here at (40 ∷ []) (OfSymbol OpenParen) ∷ (M.first ∷ (M.others ++ behind_m))) (after A.end (41 ∷ [])) rest) (sym whole)
+              (lex_token (40 ∷ []) (m ++ 44 ∷ (n ++ 58 ∷ (a ++ 41 ∷ rest))) (symbol_stands OpenParen (m ++ 44 ∷ (n ++ 58 ∷ (a ++ 41 ∷ rest))) (no_star_at m (44 ∷ (n ++ 58 ∷ (a ++ 41 ∷ rest))) star))
+              (reads_join M.lexed (lex_token (44 ∷ []) (n ++ 58 ∷ (a ++ 41 ∷ rest)) (symbol_stands Comma (n ++ 58 ∷ (a ++ 41 ∷ rest)) tt)
+              (reads_join N.lexed (lex_token (58 ∷ []) (a ++ 41 ∷ rest) (symbol_stands Colon (a ++ 41 ∷ rest) tt)
+              (reads_join A.lexed (lex_token (41 ∷ []) rest (symbol_stands CloseParen rest tt) Lexes.none)))))));
+          same = ap (λ (ts : List Item). record { lexeme = OfSymbol OpenParen; place = at.place } ∷ ts)
+              (same_join M.nested nested_m (M.first ∷ M.others) behind_m M.same
+              (ap (λ (ts : List Item). record { lexeme = OfSymbol Comma; place = M.end.place } ∷ ts)
+              (same_join N.nested (symbol (suc d) N.end.place Colon ∷ (A.nested ++ symbol d A.end.place CloseParen ∷ [])) (N.first ∷ N.others) (colon ∷ (A.first ∷ (A.others ++ close ∷ []))) N.same
+              (ap (λ (ts : List Item). record { lexeme = OfSymbol Colon; place = N.end.place } ∷ ts)
+              (same_join A.nested (symbol d A.end.place CloseParen ∷ []) (A.first ∷ A.others) (close ∷ []) A.same refl)))));
+          parsed = subst (λ (ns : List Nested). Parse names d Atom ns (Pairs M.written N.written A.written)) assoc (Parse.pair at.place M.end.place N.end.place A.end.place M.parsed N.parsed A.parsed);
+          read = ReadsExplicitly.pair A.read (subst (λ (c : Core). Annotates es locals ra.core c) sigma (Annotates.core (ap is_sigma sigma))) M.read N.read;
+        };
+    }
