@@ -7,3 +7,5 @@ pub mod ReadTokens
 pub mod ReadParts
 pub mod FreeNames
 pub mod ReadLocals
+pub mod ReadForms
+pub mod ReadTerms

@@ -50,7 +50,7 @@ bind_marked Kinds.Lambda mark s t = Lam mark s t
 bind_marked Kinds.Pi mark s t = Pi mark s t
 bind_marked Kinds.Sigma mark s t = Sigma mark s t
 
-bind-marked : (kind : Kind) (x : Binder) (a b : Core) (s t : MarkedTerm) → marked [] a ≡ s → marked [] b ≡ t → marked [] (bind_core kind x a b) ≡ bind_marked kind x.mark s t
+pub bind-marked : (kind : Kind) (x : Binder) (a b : Core) (s t : MarkedTerm) → marked [] a ≡ s → marked [] b ≡ t → marked [] (bind_core kind x a b) ≡ bind_marked kind x.mark s t
 bind-marked Kinds.Lambda x a b s t p q = rw (p, q) refl
 bind-marked Kinds.Pi x a b s t p q = rw (p, q) refl
 bind-marked Kinds.Sigma x a b s t p q = rw (p, q) refl
@@ -63,7 +63,7 @@ pub record IsJoined (names : Names) (es : List Entry) (locals : Scope) (d : ℕ)
 
 module _ (names : Names) (es : List Entry) where
   -- a form that is another one
-  pub as_form : {locals : Scope} {form other : Form} {text : List ℕ} {c : MarkedTerm}
+  unfoldable pub as_form : {locals : Scope} {form other : Form} {text : List ℕ} {c : MarkedTerm}
       → ((d : ℕ) (ns : List Nested) (w : Written) → Parse names d form ns w → Parse names d other ns w)
       → CanRead names es locals form text c → CanRead names es locals other text c
   as_form f r = record { core = r.core; is = r.is; reads = λ d at rest stops.
@@ -118,7 +118,7 @@ module _ (names : Names) (es : List Entry) where
 
   -- two parts with a symbol between
   module _ {locals inner : Scope} (form left right : Form) (s : Symbol) (a b : List ℕ) (x y c : MarkedTerm) (down : ℕ → ℕ) where
-    pub two_parts : ((rest : List ℕ) → MayStand s rest) → (ra : CanRead names es locals left a x) → (rb : CanRead names es inner right b y)
+    unfoldable pub two_parts : ((rest : List ℕ) → MayStand s rest) → (ra : CanRead names es locals left a x) → (rb : CanRead names es inner right b y)
         → (core : Core) → marked [] core ≡ c
         → ((d : ℕ) (p : Place) (ts us : List Nested) (w u : Written) → Parse names d left ts w → Parse names (down d) right us u
           → ReadsExplicitly es no_variables locals w ra.core → ReadsExplicitly es no_variables inner u rb.core
@@ -165,7 +165,7 @@ module _ (names : Names) (es : List Entry) where
 
   -- a binder: brackets around a name, a sign and a part, and a body behind them
   module _ {locals inner : Scope} (o sg cl : Symbol) (name a b : List ℕ) (h : IsHeldText names name) (n : IsNameText name) (x y c : MarkedTerm) where
-    pub binder_parts : ((rest : List ℕ) → MayStand o (name ++ rest)) → ((rest : List ℕ) → MayStand sg rest) → ((rest : List ℕ) → MayStand cl rest)
+    unfoldable pub binder_parts : ((rest : List ℕ) → MayStand o (name ++ rest)) → ((rest : List ℕ) → MayStand sg rest) → ((rest : List ℕ) → MayStand cl rest)
         → (ra : CanRead names es locals Term a x) → (rb : CanRead names es inner Term b y) → (core : Core) → marked [] core ≡ c
         → ((d : ℕ) (p q r e : Place) (ts us : List Nested) (w u : Written) → Parse names (suc d) Term ts w → Parse names (suc d) Term us u
           → ReadsExplicitly es no_variables locals w ra.core → ReadsExplicitly es no_variables inner u rb.core

@@ -1,7 +1,6 @@
 -- What it is for a printed term to read back.
 use Rattle.std.specs.Prelude.{◌≡◌, ℕ, ◌<◌, ◌^◌, true, List, [], map, MatchBool, Some, slice_get}
 use Rattle.std.specs.List.{list_any}
-use Rattle.lego_base.specs.Names.{AreDistinct}
 use Rattle.lego_base.specs.declared.place.Place.{Place}
 use Rattle.lego_term.specs.Levels.{Assignment, level_value}
 use Rattle.lego_term.specs.Trees.{Tree, Core, Var, Const, Prop, Univ, Pi, Lam, App, Sigma, Pair, Fst, Snd, Let, map_tree}
@@ -94,5 +93,5 @@ pub record ReadsBack (names : Names) (es : List Entry) (place : Place) (text : L
 abbrev pub PrintedTermsReadBack : Type 0
 PrintedTermsReadBack =
     (levels : Shown) (v : Assignment) (names : Names) (es : List Entry) (scope : Scope) (place : Place) (t : Core)
-    → IsLeast levels v → scope.locals ≡ [] → AreDistinct names → IsReadable names es v scope t
+    → IsLeast levels v → scope.locals ≡ [] → IsReadable names es v scope t
     → ReadsBack names es place (term_text levels scope 0 t) v t
