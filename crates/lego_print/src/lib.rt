@@ -8,6 +8,7 @@ mod laws;
 mod locals;
 mod page;
 mod pieces;
+mod refusal;
 mod shown;
 mod term;
 mod text;
@@ -17,6 +18,7 @@ pub use entries::Entries;
 pub use heading::Heading;
 pub use item::Item;
 pub use laws::printed_terms_read_back;
+pub use refusal::{Details, cause_text, details_text, refusal_text};
 pub use shown::Shown;
 pub use text::{entry_command, entry_text, term_text};
 
