@@ -9,3 +9,4 @@ pub mod FreeNames
 pub mod ReadLocals
 pub mod ReadForms
 pub mod ReadTerms
+pub mod CountedLemmas

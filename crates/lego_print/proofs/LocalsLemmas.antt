@@ -1,7 +1,9 @@
 -- The local variables of a printer, by its frames.
-use Rattle.std.proofs.Common.{◌≡◌, ℕ, suc, ◌+◌, ◌-◌, ◌<◌, ◌≤◌, Bool, true, false, ◌||◌, if◌then◌else◌, List, [], ◌∷◌, ◌++◌, map, reverse, length, take, drop, get_or, Option, Some, None, option_map, unwrap_or, is_some, IsSome, ◌↔◌, refl, sym, ap, ◌∙◌, subst, arith, append-nil, append_assoc}
+use Rattle.std.proofs.Common.{◌≡◌, ℕ, suc, ◌+◌, ◌-◌, ◌<◌, ◌≤◌, Bool, true, false, ◌||◌, if◌then◌else◌, nat_eq, List, [], ◌∷◌, ◌++◌, map, reverse, length, take, drop, get_or, Option, Some, None, option_map, unwrap_or, is_some, IsSome, ◌↔◌, refl, sym, ap, ◌∙◌, subst, arith, append-nil, append_assoc}
 use Rattle.std.specs.Prelude.{slice_get, option_and_then, option_to_list}
+use Rattle.std.specs.Option.{option_eq}
 use Rattle.std.specs.List.{list_any, filter_map}
+use Rattle.std.proofs.lemmas.Bool.Decides.{nat_tests}
 use Rattle.std.proofs.lemmas.List.{map-append, reverse-append, length-map, length-reverse, get_or-reverse}
 use Rattle.std.proofs.lemmas.List.Elements.{filter_map-append}
 use Rattle.std.proofs.lemmas.List.Folds.{list_any-append}
@@ -10,6 +12,7 @@ use Rattle.lego_base.specs.Names.{same_text}
 use Rattle.lego_base.proofs.NamesLemmas.{list_any-map, map-push}
 use Rattle.lego_print.specs.declared.locals.Frame.{Frame}
 use Rattle.lego_print.specs.Names.{is_printed_as}
+use Rattle.lego_print.specs.private.Counted.{IsAmong}
 use Rattle.lego_print.specs.private.Numbered.{Numbered, numbered_frame, locals_of, printed, frame_texts}
 
 abbrev Frames : Type 0
@@ -122,3 +125,24 @@ no_local frames i l =
 
 pub text_at : (xs : List (Option (List ℕ))) (i : ℕ) (o : Option (Option (List ℕ))) → slice_get xs i ≡ o → unwrap_or (option_and_then (λ text. text) (slice_get xs i)) [] ≡ unwrap_or (option_and_then (λ text. text) o) []
 text_at xs i o h = ap (λ (o : Option (Option (List ℕ))). unwrap_or (option_and_then (λ text. text) o) []) h
+
+-- a frame is among the local variables
+pub frame_among : (frames : Frames) (p : ℕ) (f : Frame) → p < length frames → slice_get frames p ≡ Some (Some f) → IsAmong (locals_of frames) (numbered_frame f)
+frame_among frames p f l at =
+    let numbered = map (option_map numbered_frame) frames in
+    let i = length frames - 1 - p in
+    let same : length numbered ≡ length frames = length-map frames (option_map numbered_frame) in
+    let there : slice_get numbered p ≡ Some (Some (numbered_frame f)) = slice_get-map (option_map numbered_frame) frames p ∙ ap (option_map (option_map numbered_frame)) at in
+    let item : get_or (reverse numbered) i None ≡ Some (numbered_frame f) =
+    get_or-reverse numbered i None (omega arith) ∙ ap (λ n. get_or numbered n None) (omega (arith, same)) ∙ get_or_from_slice_get numbered p (Some (numbered_frame f)) None there in
+    (i, slice_get-get_or (reverse numbered) i None (omega (arith, length-reverse numbered)) ∙ ap (λ o. Some o) item)
+
+same_number : (m n : ℕ) → nat_eq m n ≡ true → m ≡ n
+same_number m n h = grind (arith, nat_tests)
+
+-- names that are equal
+pub same_wish : (a b : Option ℕ) → true ≡ option_eq nat_eq a b → a ≡ b
+same_wish None None h = refl
+same_wish None (Some n) h = absurd (cc)
+same_wish (Some m) None h = absurd (cc)
+same_wish (Some m) (Some n) h = ap (λ (k : ℕ). Some k) (same_number m n (sym h))

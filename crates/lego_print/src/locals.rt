@@ -1,8 +1,9 @@
 //! The enclosing local variables of what is printed.
-ghost use Rattle.std.specs.Prelude.{◌≡◌, [], ◌∷◌, None, Some, false, drop, length, option_and_then, unwrap_or, OnOk, slice_get};
+ghost use Rattle.std.specs.Prelude.{◌≡◌, [], ◌∷◌, None, Some, false, drop, length, option_and_then, unwrap_or, IfSome, OnOk, slice_get};
 ghost use Rattle.std.specs.List.{list_any};
 ghost use Rattle.lego_print.specs.Names.{is_printed_as};
 ghost use Rattle.lego_print.specs.private.Numbered.{numbered_frame, printed};
+ghost use Rattle.lego_print.specs.private.Counted.{IsAmong};
 
 use indexmap::IndexSet;
 use std::alloc::{AllocError, Global};
@@ -79,6 +80,19 @@ impl Locals {
         match &self.frames[self.frames.len() - 1 - index] {
             Some(frame) => frame.text.as_slice(),
             None => b"",
+        }
+    }
+
+    /// The frame at a place from outside, if it has the wished name.
+    pub fn wishing(&self, place: usize, wished: Option<u32>) -> Option<&Frame>
+        ensures { IfSome result (λ frame. IsAmong self.now (numbered_frame frame.now) × (frame.now.wished ≡ wished)) }
+    {
+        if place >= self.frames.len() {
+            return None;
+        }
+        match &self.frames[place] {
+            Some(frame) if frame.wished == wished => Some(frame),
+            _ => None,
         }
     }
 

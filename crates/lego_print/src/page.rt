@@ -1,13 +1,15 @@
 //! What is printed so far, and the names that binders get.
-ghost use Rattle.std.specs.Prelude.{◌≡◌, [], false, IfOk};
+ghost use Rattle.std.specs.Prelude.{◌≡◌, [], ◌∷◌, Some, false, drop, IfOk, OnOk};
 ghost use Rattle.std.specs.List.{list_any};
 ghost use Rattle.lego_print.specs.Names.{numbered, is_free, is_text_of, is_printed_as, printed_name, wished_name};
-ghost use Rattle.lego_print.specs.private.Numbered.{scope_of, printed};
+ghost use Rattle.lego_print.specs.private.Counted.{AreTaken, IsCounted, AreCounted};
+ghost use Rattle.lego_print.specs.private.Numbered.{numbered_frame, scope_of, printed};
 
 use crate::entries::Entries;
 use crate::locals::{Frame, Locals};
 use crate::pieces::{name_text, push_number};
 use crate::shown::Shown;
+use indexmap::IndexMap;
 use lego_base::Names;
 use std::alloc::{AllocError, Global};
 
@@ -20,11 +22,21 @@ pub(crate) struct Printer<'a, E> {
     pub levels: Shown<'a>,
 }
 
-/// The text so far, and the local variables around what comes next.
+/// The text so far, and the local variables around what comes next. `latest` is where the
+/// innermost local variable of a wished name stands; it is looked at before it is used.
 #[derive(Drop)]
 pub(crate) struct Page {
     pub text: Vec<u8>,
     pub locals: Locals,
+    pub latest: IndexMap<u64, usize>,
+}
+
+/// The key of a wished name.
+fn key(wished: Option<u32>) -> u64 {
+    match wished {
+        Some(name) => u64::from(name) + 1,
+        None => 0,
+    }
 }
 
 impl Page {
@@ -36,6 +48,39 @@ impl Page {
         Page {
             text: Vec::new(alloc),
             locals: Locals::new(alloc),
+            latest: IndexMap::new(alloc),
+        }
+    }
+
+    /// Goes under a binder with a printed name that is not in use, and tells where the
+    /// innermost local variable of the wished name stood.
+    pub fn enter(&mut self, frame: Frame) -> Result<Option<usize>, AllocError>
+        requires { list_any (is_printed_as frame.text.items) (printed self.old.locals) ≡ false }
+        ensures text { OnOk result (self.new.text.items ≡ self.old.text.items) }
+        ensures locals { OnOk result (self.new.locals ≡ Some (numbered_frame frame) ∷ self.old.locals) }
+    {
+        let place = self.locals.len() as usize;
+        let Ok(outer) = self.latest.insert(key(frame.wished), place) else {
+            return Err(AllocError);
+        };
+        self.locals.enter(frame)?;
+        Ok(outer)
+    }
+
+    /// Leaves the innermost binder, which had the wished name.
+    pub fn leave(&mut self, wished: Option<u32>, outer: Option<usize>)
+        ensures text { self.new.text.items ≡ self.old.text.items }
+        ensures locals { self.new.locals ≡ drop 1 self.old.locals }
+    {
+        self.locals.leave();
+        let key = key(wished);
+        match outer {
+            Some(place) => {
+                let _replaced = self.latest.insert(key, place);
+            }
+            None => {
+                let _removed = self.latest.swap_remove(&key);
+            }
         }
     }
 }
@@ -80,20 +125,33 @@ impl<E: Entries> Printer<'_, E> {
         !self.is_entry(text) && !locals.has_text(text)
     }
 
+    /// The first number that is not known to be taken, by the innermost local variable of the
+    /// wished name: that name took the number before.
+    fn first_number(&self, page: &Page, wished: Option<u32>) -> u64
+        requires { AreCounted self.now.names.now (E.called self.now.entries.now) (E.in_scope self.now.entries.now) page.now.locals }
+        ensures { AreTaken (scope_of self.now.names.now (E.called self.now.entries.now) (E.in_scope self.now.entries.now) page.now.locals) (wished_name self.now.names.now wished) result }
+    {
+        let Some(place) = page.latest.get(&key(wished)) else {
+            return 0;
+        };
+        match page.locals.wishing(*place, wished) {
+            Some(frame) => frame.number.saturating_add(1),
+            None => 0,
+        }
+    }
+
     /// What a binder is called: its wished name, with the least number that makes it free.
-    pub fn frame(
-        &self,
-        locals: &Locals,
-        name: Option<u32>,
-    ) -> Result<Frame, AllocError>
-        ensures text { IfOk result (λ frame. frame.text.items ≡ printed_name (scope_of self.now.names.now (E.called self.now.entries.now) (E.in_scope self.now.entries.now) locals.now) (wished_name self.now.names.now name)) }
-        ensures free { IfOk result (λ frame. list_any (is_printed_as frame.text.items) (printed locals.now) ≡ false) }
+    pub fn frame(&self, page: &Page, name: Option<u32>) -> Result<Frame, AllocError>
+        requires { AreCounted self.now.names.now (E.called self.now.entries.now) (E.in_scope self.now.entries.now) page.now.locals }
+        ensures text { IfOk result (λ frame. frame.text.items ≡ printed_name (scope_of self.now.names.now (E.called self.now.entries.now) (E.in_scope self.now.entries.now) page.now.locals) (wished_name self.now.names.now name)) }
+        ensures free { IfOk result (λ frame. list_any (is_printed_as frame.text.items) (printed page.now.locals) ≡ false) }
+        ensures counted { IfOk result (λ frame. IsCounted (scope_of self.now.names.now (E.called self.now.entries.now) (E.in_scope self.now.entries.now) page.now.locals) (numbered_frame frame)) }
     {
         let wished = self.wished(name);
-        let in_use = u64::from(self.entries.count()) + u64::from(locals.len());
-        for number in 0..in_use {
+        let in_use = u64::from(self.entries.count()) + u64::from(page.locals.len());
+        for number in self.first_number(page, name)..in_use {
             let text = numbered(self.alloc, wished, number)?;
-            if self.is_free(locals, text.as_slice()) {
+            if self.is_free(&page.locals, text.as_slice()) {
                 return Ok(Frame {
                     text,
                     wished: name,
@@ -109,4 +167,3 @@ impl<E: Entries> Printer<'_, E> {
         })
     }
 }
-

@@ -1,6 +1,7 @@
 //! The text of a term.
 ghost use Rattle.std.specs.Prelude.{◌≡◌, ◌++◌, OnOk};
 ghost use Rattle.lego_print.specs.Texts.{term_text};
+ghost use Rattle.lego_print.specs.private.Counted.{AreCounted};
 ghost use Rattle.lego_print.specs.private.Numbered.{scope_of};
 ghost use Rattle.lego_print.specs.private.Parts.{infix_text, binder_text, product_text, sigma_text};
 
@@ -35,6 +36,7 @@ pub(crate) fn push_term<E: Entries>(
     wanted: u32,
     term: &Term,
 ) -> Result<(), AllocError>
+    requires { AreCounted printer.now.names.now (E.called printer.now.entries.now) (E.in_scope printer.now.entries.now) page.old.locals }
     ensures text { OnOk result (page.new.text.items ≡ page.old.text.items ++ term_text printer.now.levels (scope_of printer.now.names.now (E.called printer.now.entries.now) (E.in_scope printer.now.entries.now) page.old.locals) wanted term.now) }
     ensures locals { OnOk result (page.new.locals ≡ page.old.locals) }
 {
@@ -113,6 +115,7 @@ fn push_product<E: Entries>(
     a: &Term,
     b: &Term,
 ) -> Result<(), AllocError>
+    requires { AreCounted printer.now.names.now (E.called printer.now.entries.now) (E.in_scope printer.now.entries.now) page.old.locals }
     ensures text { OnOk result (page.new.text.items ≡ page.old.text.items ++ product_text printer.now.levels (scope_of printer.now.names.now (E.called printer.now.entries.now) (E.in_scope printer.now.entries.now) page.old.locals) x a.now b.now) }
     ensures locals { OnOk result (page.new.locals ≡ page.old.locals) }
 {
@@ -146,6 +149,7 @@ fn push_sigma<E: Entries>(
     a: &Term,
     b: &Term,
 ) -> Result<(), AllocError>
+    requires { AreCounted printer.now.names.now (E.called printer.now.entries.now) (E.in_scope printer.now.entries.now) page.old.locals }
     ensures text { OnOk result (page.new.text.items ≡ page.old.text.items ++ sigma_text printer.now.levels (scope_of printer.now.names.now (E.called printer.now.entries.now) (E.in_scope printer.now.entries.now) page.old.locals) name a.now b.now) }
     ensures locals { OnOk result (page.new.locals ≡ page.old.locals) }
 {
@@ -175,6 +179,7 @@ fn push_infix<E: Entries>(
     a: &Term,
     b: &Term,
 ) -> Result<(), AllocError>
+    requires { AreCounted printer.now.names.now (E.called printer.now.entries.now) (E.in_scope printer.now.entries.now) page.old.locals }
     ensures text { OnOk result (page.new.text.items ≡ page.old.text.items ++ infix_text printer.now.levels (scope_of printer.now.names.now (E.called printer.now.entries.now) (E.in_scope printer.now.entries.now) page.old.locals) symbol a.now b.now) }
     ensures locals { OnOk result (page.new.locals ≡ page.old.locals) }
 {
@@ -196,17 +201,18 @@ fn push_binder<E: Entries>(
     a: &Term,
     b: &Term,
 ) -> Result<(), AllocError>
+    requires { AreCounted printer.now.names.now (E.called printer.now.entries.now) (E.in_scope printer.now.entries.now) page.old.locals }
     ensures text { OnOk result (page.new.text.items ≡ page.old.text.items ++ binder_text printer.now.levels (scope_of printer.now.names.now (E.called printer.now.entries.now) (E.in_scope printer.now.entries.now) page.old.locals) brackets name a.now b.now) }
     ensures locals { OnOk result (page.new.locals ≡ page.old.locals) }
 {
-    let frame = printer.frame(&page.locals, name)?;
+    let frame = printer.frame(page, name)?;
     page.text.extend_from_slice(brackets.open)?;
     page.text.extend_from_slice(frame.text.as_slice())?;
     page.text.extend_from_slice(brackets.sign)?;
     push_term(printer, page, 0, a)?;
     page.text.extend_from_slice(brackets.close)?;
-    page.locals.enter(frame)?;
+    let outer = page.enter(frame)?;
     push_term(printer, page, 0, b)?;
-    page.locals.leave();
+    page.leave(name, outer);
     Ok(())
 }

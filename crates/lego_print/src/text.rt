@@ -2,6 +2,7 @@
 ghost use Rattle.std.specs.Prelude.{◌≡◌, ◌++◌, ℕ, IfOk, OnOk};
 ghost use Rattle.lego_print.specs.Texts.{term_text, seen_text, outer_scope};
 ghost use Rattle.lego_print.specs.Entries.{item_entry, entry_text, entry_command, said, declared};
+ghost use Rattle.lego_print.specs.private.Counted.{AreCounted};
 ghost use Rattle.lego_print.specs.private.Numbered.{scope_of};
 ghost use Rattle.std.specs.Option.{option_copied};
 
@@ -34,11 +35,15 @@ pub fn term_text<E: Entries>(
     };
     let mut page = Page::new(alloc);
     for x in seen.under.items() {
-        let frame = printer.frame(&page.locals, x.name)?;
-        page.locals.enter(frame)?;
+        let frame = printer.frame(&page, x.name)?;
+        let _outer = page.enter(frame)?;
     }
     push_term(&printer, &mut page, 0, &seen.term)?;
-    let Page { text, locals: _ } = page;
+    let Page {
+        text,
+        locals: _,
+        latest: _,
+    } = page;
     Ok(text)
 }
 
@@ -62,7 +67,11 @@ pub fn entry_text<E: Entries>(
     let mut page = Page::new(alloc);
     page.text.extend_from_slice(name_text(names, item.name))?;
     push_said(&printer, &mut page, item)?;
-    let Page { text, locals: _ } = page;
+    let Page {
+        text,
+        locals: _,
+        latest: _,
+    } = page;
     Ok(text)
 }
 
@@ -72,6 +81,7 @@ fn push_said<E: Entries>(
     page: &mut Page,
     item: Item<'_>,
 ) -> Result<(), AllocError>
+    requires { AreCounted printer.now.names.now (E.called printer.now.entries.now) (E.in_scope printer.now.entries.now) page.old.locals }
     ensures { OnOk result (page.new.text.items ≡ page.old.text.items ++ said printer.now.levels (scope_of printer.now.names.now (E.called printer.now.entries.now) (E.in_scope printer.now.entries.now) page.old.locals) (option_copied item.entry.body) item.entry.mark item.entry.ty.now) }
 {
     match (item.body, item.mark) {
@@ -108,7 +118,11 @@ pub fn entry_command<E: Entries>(
     page.text.extend_from_slice(name_text(names, item.name))?;
     push_declared(&printer, &mut page, item)?;
     page.text.extend_from_slice(b"];\n")?;
-    let Page { text, locals: _ } = page;
+    let Page {
+        text,
+        locals: _,
+        latest: _,
+    } = page;
     Ok(text)
 }
 
@@ -118,6 +132,7 @@ fn push_declared<E: Entries>(
     page: &mut Page,
     item: Item<'_>,
 ) -> Result<(), AllocError>
+    requires { AreCounted printer.now.names.now (E.called printer.now.entries.now) (E.in_scope printer.now.entries.now) page.old.locals }
     ensures { OnOk result (page.new.text.items ≡ page.old.text.items ++ declared printer.now.levels (scope_of printer.now.names.now (E.called printer.now.entries.now) (E.in_scope printer.now.entries.now) page.old.locals) (option_copied item.entry.body) item.entry.mark item.entry.ty.now) }
 {
     match (item.body, item.mark) {

@@ -6,4 +6,4 @@ use Rattle.lego_print.proofs.page.Printer.frame.Given as goal
 abbrev pub invariant-loop-number : goal.invariant-loop-number
 invariant-loop-number g l =
     (m : ℕ) → m < l.number
-    → is_free (scope_of l.self.names.now (g.E.Entries.called l.self.entries.now) (g.E.Entries.in_scope l.self.entries.now) l.locals) (numbered (wished_name l.self.names.now l.name) m) ≡ false
+    → is_free (scope_of l.self.names.now (g.E.Entries.called l.self.entries.now) (g.E.Entries.in_scope l.self.entries.now) l.page.locals) (numbered (wished_name l.self.names.now l.name) m) ≡ false
