@@ -10,3 +10,4 @@ pub mod ReadLocals
 pub mod ReadForms
 pub mod ReadTerms
 pub mod CountedLemmas
+pub mod PrintedNames

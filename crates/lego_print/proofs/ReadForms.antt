@@ -24,10 +24,11 @@ use Rattle.lego_grammar.specs.declared.surface.Part.TheVariants as Parts
 use Rattle.lego_grammar.specs.Scopes.{LocalVariable, Scope as Reading, no_variables}
 use Rattle.lego_grammar.specs.Reading.{ReadsExplicitly, bind_core, binder}
 use Rattle.lego_grammar.specs.Denotes.{MarkedTerm}
+use Rattle.lego_grammar.specs.Developments.{is_printable}
 use Rattle.lego_print.specs.ReadBack.{marked, IsHeldText}
 use Rattle.lego_print.specs.Texts.{ranked}
 use Rattle.lego_print.proofs.ReadTokens.{IsNoStar, no_star_of, no_star_more, MayStand, IsNameText, name_text_is, name_star, IsToken, number_stands, IsNumberText, decimal_text}
-use Rattle.lego_print.proofs.ReadParts.{CanRead, IsJoined, bind_marked, bind-marked, as_form, name_read, prop_read, two_parts, blank_parts, binder_parts, parens_read, projected, level_read, pair_read}
+use Rattle.lego_print.proofs.ReadParts.{CanRead, IsJoined, both_true, bind_marked, bind-marked, as_form, name_read, prop_read, two_parts, blank_parts, binder_parts, parens_read, projected, level_read, pair_read}
 
 -- the form of each rank
 abbrev pub form_of : ℕ → Form
@@ -92,14 +93,14 @@ module _ (names : Names) (es : List Entry) where
   arrow_read a b x y ra rb =
       two_parts names es Term Sum Term Arrow a b x y (Pi Plain x y) suc (λ rest. tt) ra rb (Pi (binder None Plain) ra.core rb.core)
       (bind-marked Kinds.Pi (binder None Plain) ra.core rb.core x y ra.is rb.is)
-      (λ d p ts us w u pa pb da db. record { written = Bind Kinds.Pi Plain [] w u; parsed = Parse.arrow p pa pb; read = ReadsExplicitly.nameless da db })
+      (λ d p ts us w u pa pb da db pr qr. record { written = Bind Kinds.Pi Plain [] w u; parsed = Parse.arrow p pa pb; read = ReadsExplicitly.nameless da db; printable = both_true (is_printable w) (is_printable u) pr qr })
 
   unfoldable pub hash_read : {locals : Reading} (a b : List ℕ) (x y : MarkedTerm) (ra : CanRead names es locals Spine a x) (rb : CanRead names es (LocalVariable.Bound None ∷ locals) Sum b y)
       → CanRead names es locals Sum ((a ++ 35 ∷ []) ++ b) (Sigma Plain x y)
   hash_read a b x y ra rb =
       two_parts names es Sum Spine Sum Hash a b x y (Sigma Plain x y) suc (λ rest. tt) ra rb (Sigma (binder None Plain) ra.core rb.core)
       (bind-marked Kinds.Sigma (binder None Plain) ra.core rb.core x y ra.is rb.is)
-      (λ d p ts us w u pa pb da db. record { written = Bind Kinds.Sigma Plain [] w u; parsed = Parse.hash_sum p pa pb; read = ReadsExplicitly.nameless da db })
+      (λ d p ts us w u pa pb da db pr qr. record { written = Bind Kinds.Sigma Plain [] w u; parsed = Parse.hash_sum p pa pb; read = ReadsExplicitly.nameless da db; printable = both_true (is_printable w) (is_printable u) pr qr })
 
   -- an application to an implicit argument
   pub bar_read : {locals : Reading} (f a : List ℕ) (x y : MarkedTerm) → CanRead names es locals Spine f x → CanRead names es locals Post a y
@@ -107,7 +108,7 @@ module _ (names : Names) (es : List Entry) where
   bar_read f a x y rf ra =
       two_parts names es Spine Spine Post Bar f a x y (App Implicit x y) (λ d. d) (λ rest. tt) rf ra (App Implicit rf.core ra.core)
       (let p = rf.is in let q = ra.is in rw (p, q) refl)
-      (λ d p ts us w u pa pb da db. record { written = Apply Implicit w u; parsed = Parse.apply_bar p pa pb; read = ReadsExplicitly.apply da db })
+      (λ d p ts us w u pa pb da db pr qr. record { written = Apply Implicit w u; parsed = Parse.apply_bar p pa pb; read = ReadsExplicitly.apply da db; printable = both_true (is_printable w) (is_printable u) pr qr })
 
   pub may_open : (kind : Kind) (rest : List ℕ) → MayStand (opening kind) rest
   may_open Kinds.Lambda rest = tt
@@ -131,10 +132,11 @@ module _ (names : Names) (es : List Entry) where
       as_term (binder_parts names es (opening kind) (sign mark) (closing kind) name a b h n x y (bind_marked kind mark x y)
       (λ rest. may_open kind (name ++ rest)) (may_sign mark) (may_close kind) ra rb (bind_core kind (binder (Some h.number) mark) ra.core rb.core)
       (bind-marked kind (binder (Some h.number) mark) ra.core rb.core x y ra.is rb.is)
-      (λ d p q r e ts us w u pa pb da db. record {
+      (λ d p q r e ts us w u pa pb da db pr qr. record {
         written = Bind kind mark (h.number ∷ []) w u;
         parsed = Parse.bind p r e may (NameList.one h.held) pa pb;
         read = ReadsExplicitly.named da db;
+        printable = both_true (is_printable w) (is_printable u) pr qr;
       }))
 
   -- a local definition
@@ -144,21 +146,22 @@ module _ (names : Names) (es : List Entry) where
   local_read name a b h n x y ra rb =
       as_term (binder_parts names es OpenSquare Equals CloseSquare name a b h n x y (Let Plain x y) (λ rest. tt) (λ rest. tt) (λ rest. tt) ra rb
       (Let (binder (Some h.number) Plain) ra.core rb.core) (let p = ra.is in let q = rb.is in rw (p, q) refl)
-      (λ d p q r e ts us w u pa pb da db. record {
+      (λ d p q r e ts us w u pa pb da db pr qr. record {
         written = Local h.number w u;
         parsed = Parse.local p q r e h.held pa pb;
         read = ReadsExplicitly.local_definition da db;
+        printable = both_true (is_printable w) (is_printable u) pr qr;
       }))
 
   -- projections
   pub first_read : {locals : Reading} (a : List ℕ) (x : MarkedTerm) → CanRead names es locals Post a x → CanRead names es locals Post (a ++ 46 ∷ 49 ∷ []) (Fst x)
   first_read a x r =
-      projected names es 1 Parts.First a x (Fst x) (λ rest stops. number_stands (49 ∷ []) rest 1 (record { first = 49; rest = []; is = refl; begins = refl; token = refl }) stops)
+      projected names es 1 Parts.First a x (Fst x) (λ rest stops. number_stands (49 ∷ []) rest 1 (record { first = 49; rest = []; is = refl; begins = refl; digits = refl; token = refl }) stops)
       (λ d p q ts w h. Parse.first p q h) (λ m e. ap (λ (z : MarkedTerm). Fst z) e) r
 
   pub second_read : {locals : Reading} (a : List ℕ) (x : MarkedTerm) → CanRead names es locals Post a x → CanRead names es locals Post (a ++ 46 ∷ 50 ∷ []) (Snd x)
   second_read a x r =
-      projected names es 2 Parts.Second a x (Snd x) (λ rest stops. number_stands (50 ∷ []) rest 2 (record { first = 50; rest = []; is = refl; begins = refl; token = refl }) stops)
+      projected names es 2 Parts.Second a x (Snd x) (λ rest stops. number_stands (50 ∷ []) rest 2 (record { first = 50; rest = []; is = refl; begins = refl; digits = refl; token = refl }) stops)
       (λ d p q ts w h. Parse.second p q h) (λ m e. ap (λ (z : MarkedTerm). Snd z) e) r
 
   -- a universe
@@ -180,6 +183,9 @@ is_name_form text other value None None false true h = absurd (cc)
 is_name_form text other value None None false false h = absurd (cc)
 
 -- a name has the form of one
+pub name_form : (text : List ℕ) → token_of text ≡ Some (Name text) → has_name_form text ≡ true
+name_form text h =
+    is_name_form text text (number_value text) (written_as word_text words text) (written_as symbol_text symbols text) (has_name_form text) (has_number_form text) h
+
 pub name_is : (text : List ℕ) → token_of text ≡ Some (Name text) → IsNameText text
-name_is text h =
-    name_text_is text (is_name_form text text (number_value text) (written_as word_text words text) (written_as symbol_text symbols text) (has_name_form text) (has_number_form text) h)
+name_is text h = name_text_is text (name_form text h)

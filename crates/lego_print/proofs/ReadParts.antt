@@ -1,5 +1,5 @@
 -- The texts of the forms of terms are lexed, parsed and read, where those of the parts are.
-use Rattle.std.proofs.Common.{◌≡◌, ℕ, zero, suc, ◌+◌, ◌<◌, ◌≤◌, Bool, true, false, nat_lt, if◌then◌else◌, List, [], ◌∷◌, ◌++◌, map, length, Option, Some, None, refl, sym, ap, ap₂, ◌∙◌, subst, arith, append_assoc}
+use Rattle.std.proofs.Common.{◌≡◌, ℕ, zero, suc, ◌+◌, ◌<◌, ◌≤◌, Bool, true, false, ◌&&◌, nat_lt, if◌then◌else◌, List, [], ◌∷◌, ◌++◌, map, length, Option, Some, None, refl, sym, ap, ap₂, ◌∙◌, subst, arith, append_assoc}
 use Rattle.std.proofs.lemmas.Bool.Decides.{nat_tests}
 use Rattle.lego_term.specs.Levels.{Assignment, level_value, fixed_level}
 use Rattle.lego_term.specs.Trees.{Tree, Core, Var, Const, Prop, Univ, Pi, Lam, App, Sigma, Pair, Fst, Snd, Let, map_tree}
@@ -23,6 +23,7 @@ use Rattle.lego_grammar.specs.declared.surface.Part.{Part}
 use Rattle.lego_grammar.specs.Scopes.{LocalVariable, Scope, no_variables}
 use Rattle.lego_grammar.specs.Reading.{ReadsExplicitly, Annotates, bind_core, project_core, is_sigma}
 use Rattle.lego_grammar.specs.Denotes.{MarkedTerm, grammar_tokens}
+use Rattle.lego_grammar.specs.Developments.{is_printable, is_written_sigma}
 use Rattle.lego_print.specs.ReadBack.{marked, IsHeldText}
 use Rattle.lego_print.proofs.ReadTokens.{here, after, same_join, stops_at, symbol_stops, IsNoStar, no_star_at, MayStand, IsToken, symbol_stands, lex_token, IsNameText, name_text_is, name_stands, IsNumberText, number_stands, number_star, blank_first}
 
@@ -37,6 +38,7 @@ pub record IsRead (names : Names) (es : List Entry) (locals : Scope) (d : ℕ) (
   pub same : map item nested ≡ grammar_tokens (first ∷ others)
   pub parsed : Parse names d form nested written
   pub read : ReadsExplicitly es no_variables locals written core
+  pub printable : is_printable written ≡ true
 
 -- so wherever it stands
 pub record CanRead (names : Names) (es : List Entry) (locals : Scope) (form : Form) (text : List ℕ) (c : MarkedTerm) : Type 0 where
@@ -60,6 +62,11 @@ pub record IsJoined (names : Names) (es : List Entry) (locals : Scope) (d : ℕ)
   pub written : Written
   pub parsed : Parse names d form nested written
   pub read : ReadsExplicitly es no_variables locals written core
+  pub printable : is_printable written ≡ true
+
+-- two written parts that can be printed
+pub both_true : (a b : Bool) → a ≡ true → b ≡ true → (a && b) ≡ true
+both_true a b p q = rw (p, q) refl
 
 module _ (names : Names) (es : List Entry) where
   -- a form that is another one
@@ -78,6 +85,7 @@ module _ (names : Names) (es : List Entry) where
         same = R.same;
         parsed = f d R.nested R.written R.parsed;
         read = R.read;
+        printable = R.printable;
       } }
 
   -- another text that is the same
@@ -88,9 +96,9 @@ module _ (names : Names) (es : List Entry) where
   one_token : {locals : Scope} (text : List ℕ) (lexeme : Lexeme) (written : Point → Written) (core : Core) (c : MarkedTerm)
       → ((rest : List ℕ) → Stops goes_on_in_name rest → IsToken text rest lexeme)
       → ((d : ℕ) (at : Point) → Parse names d Atom (token d at.place lexeme ∷ []) (written at))
-      → ((at : Point) → ReadsExplicitly es no_variables locals (written at) core) → marked [] core ≡ c
+      → ((at : Point) → ReadsExplicitly es no_variables locals (written at) core) → marked [] core ≡ c → ((at : Point) → is_printable (written at) ≡ true)
       → CanRead names es locals Atom text c
-  one_token text lexeme written core c stands parsed read is = record { core = core; is = is; reads = λ d at rest stops.
+  one_token text lexeme written core c stands parsed read is printable = record { core = core; is = is; reads = λ d at rest stops.
       record {
         first = here at text lexeme;
         others = [];
@@ -101,6 +109,7 @@ module _ (names : Names) (es : List Entry) where
         same = refl;
         parsed = parsed d at;
         read = read at;
+        printable = printable at;
       } }
 
   pub name_read : {locals : Scope} (text : List ℕ) (h : IsHeldText names text) (core : Core) (c : MarkedTerm) → IsNameText text
@@ -108,26 +117,26 @@ module _ (names : Names) (es : List Entry) where
       → CanRead names es locals Atom text c
   name_read text h core c n read is =
       one_token text (Name text) (λ at. Named at.place h.number) core c (λ rest stops. name_stands text rest (Name text) n stops h.is_name)
-      (λ d at. Parse.name at.place h.held) read is
+      (λ d at. Parse.name at.place h.held) read is (λ at. refl)
 
   pub prop_read : {locals : Scope} → CanRead names es locals Atom (80 ∷ 114 ∷ 111 ∷ 112 ∷ []) Prop
   prop_read =
       one_token (80 ∷ 114 ∷ 111 ∷ 112 ∷ []) (OfWord Word.Prop) (λ at. WrittenProp) Prop Prop
       (λ rest stops. name_stands (80 ∷ 114 ∷ 111 ∷ 112 ∷ []) rest (OfWord Word.Prop) (name_text_is (80 ∷ 114 ∷ 111 ∷ 112 ∷ []) refl) stops refl)
-      (λ d at. Parse.prop at.place) (λ at. ReadsExplicitly.prop) refl
+      (λ d at. Parse.prop at.place) (λ at. ReadsExplicitly.prop) refl (λ at. refl)
 
   -- two parts with a symbol between
   module _ {locals inner : Scope} (form left right : Form) (s : Symbol) (a b : List ℕ) (x y c : MarkedTerm) (down : ℕ → ℕ) where
     unfoldable pub two_parts : ((rest : List ℕ) → MayStand s rest) → (ra : CanRead names es locals left a x) → (rb : CanRead names es inner right b y)
         → (core : Core) → marked [] core ≡ c
         → ((d : ℕ) (p : Place) (ts us : List Nested) (w u : Written) → Parse names d left ts w → Parse names (down d) right us u
-          → ReadsExplicitly es no_variables locals w ra.core → ReadsExplicitly es no_variables inner u rb.core
+          → ReadsExplicitly es no_variables locals w ra.core → ReadsExplicitly es no_variables inner u rb.core → is_printable w ≡ true → is_printable u ≡ true
           → IsJoined names es locals d form (ts ++ symbol d p s ∷ us) core)
         → CanRead names es locals form ((a ++ symbol_text s) ++ b) c
     two_parts may ra rb core is join = record { core = core; is = is; reads = λ d at rest stops.
         let A = ra.reads d at (symbol_text s ++ (b ++ rest)) (symbol_stops s (b ++ rest)) in
         let B = rb.reads (down d) (after A.end (symbol_text s)) rest stops in
-        let J = join d A.end.place A.nested B.nested A.written B.written A.parsed B.parsed A.read B.read in
+        let J = join d A.end.place A.nested B.nested A.written B.written A.parsed B.parsed A.read B.read A.printable B.printable in
         let middle = here A.end (symbol_text s) (OfSymbol s) in
         let whole : ((a ++ symbol_text s) ++ b) ++ rest ≡ a ++ (symbol_text s ++ (b ++ rest)) = simp append_assoc in
         record {
@@ -142,6 +151,7 @@ module _ (names : Names) (es : List Entry) where
               (ap (λ (ts : List Item). record { lexeme = OfSymbol s; place = A.end.place } ∷ ts) B.same);
           parsed = J.parsed;
           read = J.read;
+          printable = J.printable;
         } }
 
   -- a part, a blank, and another part
@@ -161,6 +171,7 @@ module _ (names : Names) (es : List Entry) where
         same = same_join F.nested A.nested (F.first ∷ F.others) (A.first ∷ A.others) F.same A.same;
         parsed = Parse.apply F.parsed A.parsed;
         read = ReadsExplicitly.apply F.read A.read;
+        printable = both_true (is_printable F.written) (is_printable A.written) F.printable A.printable;
       } }
 
   -- a binder: brackets around a name, a sign and a part, and a body behind them
@@ -168,7 +179,7 @@ module _ (names : Names) (es : List Entry) where
     unfoldable pub binder_parts : ((rest : List ℕ) → MayStand o (name ++ rest)) → ((rest : List ℕ) → MayStand sg rest) → ((rest : List ℕ) → MayStand cl rest)
         → (ra : CanRead names es locals Term a x) → (rb : CanRead names es inner Term b y) → (core : Core) → marked [] core ≡ c
         → ((d : ℕ) (p q r e : Place) (ts us : List Nested) (w u : Written) → Parse names (suc d) Term ts w → Parse names (suc d) Term us u
-          → ReadsExplicitly es no_variables locals w ra.core → ReadsExplicitly es no_variables inner u rb.core
+          → ReadsExplicitly es no_variables locals w ra.core → ReadsExplicitly es no_variables inner u rb.core → is_printable w ≡ true → is_printable u ≡ true
           → IsJoined names es locals d Form.Binder (symbol d p o ∷ token (suc d) q (Name name) ∷ symbol (suc d) r sg ∷ (ts ++ symbol d e cl ∷ us)) core)
         → CanRead names es locals Form.Binder (((((symbol_text o ++ name) ++ symbol_text sg) ++ a) ++ symbol_text cl) ++ b) c
     binder_parts may_o may_sg may_cl ra rb core is join = record { core = core; is = is; reads = λ d at rest stops.
@@ -176,7 +187,7 @@ module _ (names : Names) (es : List Entry) where
         let at2 = after at1 name in
         let A = ra.reads (suc d) (after at2 (symbol_text sg)) (symbol_text cl ++ (b ++ rest)) (symbol_stops cl (b ++ rest)) in
         let B = rb.reads (suc d) (after A.end (symbol_text cl)) rest stops in
-        let J = join d at.place at1.place at2.place A.end.place A.nested B.nested A.written B.written A.parsed B.parsed A.read B.read in
+        let J = join d at.place at1.place at2.place A.end.place A.nested B.nested A.written B.written A.parsed B.parsed A.read B.read A.printable B.printable in
         let close = here A.end (symbol_text cl) (OfSymbol cl) in
         let behind_sign = a ++ (symbol_text cl ++ (b ++ rest)) in
         let all : List Placed = here at1 name (Name name) ∷ here at2 (symbol_text sg) (OfSymbol sg) ∷ (A.first ∷ (A.others ++ close ∷ (B.first ∷ B.others))) in
@@ -197,6 +208,7 @@ module _ (names : Names) (es : List Entry) where
               (ap (λ (ts : List Item). record { lexeme = OfSymbol cl; place = A.end.place } ∷ ts) B.same));
           parsed = J.parsed;
           read = J.read;
+          printable = J.printable;
         } }
 
   -- a term in parentheses
@@ -219,6 +231,7 @@ module _ (names : Names) (es : List Entry) where
             (same_join A.nested (symbol d A.end.place CloseParen ∷ []) (A.first ∷ A.others) (close ∷ []) A.same refl);
         parsed = Parse.parens at.place A.end.place A.parsed;
         read = A.read;
+        printable = A.printable;
       } }
 
   -- a projection
@@ -244,6 +257,7 @@ module _ (names : Names) (es : List Entry) where
           same = same_join A.nested (symbol d A.end.place Dot ∷ token d (after A.end (46 ∷ [])).place (Number digit) ∷ []) (A.first ∷ A.others) (dot ∷ number ∷ []) A.same refl;
           parsed = parse d A.end.place (after A.end (46 ∷ [])).place A.nested A.written A.parsed;
           read = ReadsExplicitly.project A.read;
+          printable = A.printable;
         } }
 
   -- a universe with its level
@@ -271,13 +285,15 @@ module _ (names : Names) (es : List Entry) where
         same = refl;
         parsed = Parse.type_at at.place at1.place at2.place at3.place;
         read = ReadsExplicitly.type_at;
+        printable = refl;
       } }
 
   -- a pair, whose written type is read as a Sigma type
   module _ {locals : Scope} (m n a : List ℕ) (x y s t : MarkedTerm) (star : IsNoStar m) where
     pub pair_read : CanRead names es locals Term m x → CanRead names es locals Term n y → (ra : CanRead names es locals Term a (Sigma Plain s t)) → (z : Binder) (k l : Core)
-        → ra.core ≡ Sigma z k l → CanRead names es locals Atom ((((((40 ∷ []) ++ m) ++ 44 ∷ []) ++ n) ++ 58 ∷ []) ++ a ++ 41 ∷ []) (Pair Plain s t x y)
-    pair_read rm rn ra z k l sigma = record {
+        → ra.core ≡ Sigma z k l → ((d : ℕ) (at : Point) (rest : List ℕ) (stops : Stops goes_on_in_name rest) → is_written_sigma (ra.reads d at rest stops).written ≡ true)
+        → CanRead names es locals Atom ((((((40 ∷ []) ++ m) ++ 44 ∷ []) ++ n) ++ 58 ∷ []) ++ a ++ 41 ∷ []) (Pair Plain s t x y)
+    pair_read rm rn ra z k l sigma written_sigma = record {
       core = Pair z k l rm.core rn.core;
       is = let e : marked [] (Sigma z k l) ≡ Sigma Plain s t = ap (marked []) (sym sigma) ∙ ra.is in
           let p = rm.is in let q = rn.is in cc;
@@ -313,5 +329,7 @@ module _ (names : Names) (es : List Entry) where
               (same_join A.nested (symbol d A.end.place CloseParen ∷ []) (A.first ∷ A.others) (close ∷ []) A.same refl)))));
           parsed = subst (λ (ns : List Nested). Parse names d Atom ns (Pairs M.written N.written A.written)) assoc (Parse.pair at.place M.end.place N.end.place A.end.place M.parsed N.parsed A.parsed);
           read = ReadsExplicitly.pair A.read (subst (λ (c : Core). Annotates es locals ra.core c) sigma (Annotates.core (ap is_sigma sigma))) M.read N.read;
+          printable = both_true (is_printable M.written) _ M.printable (both_true (is_printable N.written) _ N.printable
+              (both_true (is_printable A.written) (is_written_sigma A.written) A.printable (written_sigma (suc d) (after N.end (58 ∷ [])) (41 ∷ rest) (stops_at 41 rest refl))));
         };
     }

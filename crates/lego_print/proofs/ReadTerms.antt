@@ -10,7 +10,7 @@ use Rattle.lego_term.specs.declared.binder.Mark.TheVariants.{Plain, Implicit}
 use Rattle.lego_term.specs.declared.level.Level.{Level}
 use Rattle.lego_laws.specs.Entries.{Entry}
 use Rattle.lego_lexer.specs.Bytes.{goes_on_in_name, Gap}
-use Rattle.lego_lexer.specs.Tokens.{start, Reads as Lexes}
+use Rattle.lego_lexer.specs.Tokens.{Point, start, Reads as Lexes}
 use Rattle.lego_lexer.proofs.TokenLemmas.{Stops, and_true}
 use Rattle.lego_grammar.specs.Grammar.{Names, Form, Term, Post, Atom}
 use Rattle.lego_grammar.specs.Written.{Named}
@@ -18,6 +18,7 @@ use Rattle.lego_grammar.specs.declared.surface.Kind.TheVariants as Kinds
 use Rattle.lego_grammar.specs.Scopes.{LocalVariable, Scope as Reading, no_variables, local_name}
 use Rattle.lego_grammar.specs.Reading.{ReadsExplicitly, binder}
 use Rattle.lego_grammar.specs.Denotes.{MarkedTerm}
+use Rattle.lego_grammar.specs.Developments.{is_written_sigma}
 use Rattle.lego_print.specs.declared.shown.Shown.{Shown}
 use Rattle.lego_print.specs.declared.shown.Shown.TheVariants.{Least, Hidden}
 use Rattle.lego_print.specs.Names.{Scope, printed_name, wished_name}
@@ -38,6 +39,7 @@ record SigmaRead (names : Names) (es : List Entry) (locals : Reading) (rank : �
   first : Core
   second : Core
   core_is : read.core ≡ Sigma binder first second
+  written_is : (d : ℕ) (at : Point) (rest : List ℕ) (stops : Stops goes_on_in_name rest) → is_written_sigma (read.reads d at rest stops).written ≡ true
 
 plain_is : (mark : Mark) → is_plain mark ≡ true → mark ≡ Plain
 plain_is Plain h = refl
@@ -157,6 +159,7 @@ module _ (levels : Shown) (v : Assignment) (names : Names) (es : List Entry) (le
         first = A2.read.core;
         second = B.read.core;
         core_is = refl;
+        written_is = λ d at rest stops. refl;
       }
   sigma_read scope locals name a b false A2 A0 B =
       let h = B.0.text_is in
@@ -168,6 +171,7 @@ module _ (levels : Shown) (v : Assignment) (names : Names) (es : List Entry) (le
         first = A0.read.core;
         second = B.1.read.core;
         core_is = refl;
+        written_is = λ d at rest stops. refl;
       }
 
   sigma_both : (scope : Scope) (locals : Reading) (wanted : ℕ) (mark : Mark) (rank : ℕ) (text : List ℕ) (s t : MarkedTerm) → mark ≡ Plain → SigmaRead names es locals rank text s t
@@ -182,7 +186,7 @@ module _ (levels : Shown) (v : Assignment) (names : Names) (es : List Entry) (le
   pair_both locals wanted mark rank m n text x y s t plain M N S =
       let T = as_form names es (λ d ns w p. promote names d ns w 0 rank (omega arith) p) S.read in
       subst (λ (k : Mark). Both names es locals wanted (codes "(" ++ m ++ codes "," ++ n ++ codes ":" ++ text ++ codes ")") (Pair k s t x y)) (sym plain)
-      (both_atom names es wanted (pair_read names es m n text x y s t M.star M.read N.read T S.binder S.first S.second S.core_is) (no_star_of 40 _ refl))
+      (both_atom names es wanted (pair_read names es m n text x y s t M.star M.read N.read T S.binder S.first S.second S.core_is S.written_is) (no_star_of 40 _ refl))
 
   let_both : (scope : Scope) (locals : Reading) (mark : Mark) (name : Option ℕ) (m n : Core) (r : IsBinderText names scope (binder_name scope name)) → mark ≡ Plain
       → (M : IsReadAs scope locals 0 m) → IsReadAs (bound scope name) (LocalVariable.Defined r.text_is.number M.read.core ∷ locals) 0 n
@@ -276,4 +280,5 @@ reads_back levels v names es scope place t least none readable =
       core = r.core;
       read = R.read;
       same = r.is;
+      printable = R.printable;
     }

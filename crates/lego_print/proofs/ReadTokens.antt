@@ -145,7 +145,7 @@ pub name_star : (text : List ℕ) → IsNameText text → IsNoStar text
 name_star text n = subst IsNoStar (sym n.is) (no_star_of n.first n.rest (name_no_star n.first n.begins))
 
 -- a numeral
-digit_goes_on : (b : ℕ) → is_digit b ≡ true → goes_on_in_name b ≡ true
+pub digit_goes_on : (b : ℕ) → is_digit b ≡ true → goes_on_in_name b ≡ true
 digit_goes_on b h = grind (arith, nat_tests)
 
 digit_no_star : (b : ℕ) → is_digit b ≡ true → nat_eq b 42 ≡ false
@@ -202,6 +202,7 @@ pub record IsNumberText (text : List ℕ) (n : ℕ) : Type 0 where
   pub rest : List ℕ
   pub is : text ≡ first ∷ rest
   pub begins : is_digit first ≡ true
+  pub digits : list_all is_digit (first ∷ rest) ≡ true
   pub token : token_of text ≡ Some (Number n)
 
 number_text : (text : List ℕ) (n : ℕ) → IsNumeral n text → IsNumberText text n
@@ -213,6 +214,7 @@ number_text (b ∷ t) n h =
       rest = t;
       is = refl;
       begins = d.0;
+      digits = h.0;
       token = number_token (b ∷ t) (ap (λ v. v && list_all goes_on_in_name t) (digit_no_name b d.0)) (digit_no_symbol b t d.0) h.0 ∙ ap (λ (k : ℕ). Some (Number k)) h.1;
     }
 

@@ -13,9 +13,10 @@ use Rattle.lego_grammar.specs.Written.{Written}
 use Rattle.lego_grammar.specs.Scopes.{entry_named, no_variables}
 use Rattle.lego_grammar.specs.Reading.{ReadsExplicitly}
 use Rattle.lego_grammar.specs.Denotes.{MarkedTerm, grammar_tokens}
+use Rattle.lego_grammar.specs.Developments.{is_printable}
 use Rattle.lego_print.specs.declared.shown.Shown.{Shown}
 use Rattle.lego_print.specs.declared.shown.Shown.TheVariants.{Least, Hidden}
-use Rattle.lego_print.specs.Names.{Scope, is_text_of, names_in_use}
+use Rattle.lego_print.specs.Names.{Scope, is_text_of, is_free, names_in_use, printed_name}
 use Rattle.lego_print.specs.Texts.{constant_text, binder_name, bound, unbound, is_arrow, is_unused, term_text}
 
 -- levels are shown by their values at v
@@ -77,7 +78,8 @@ IsReadable names es v scope (Let x m n) =
     × IsReadable names es v (bound scope x.name) n
 
 -- The text, whose first byte stands at this place, is lexed as tokens; these are read by the grammar as a written term; and
--- this is read, in explicit mode, as a core that is equal to the term at v up to names of binders.
+-- this is read, in explicit mode, as a core that is equal to the term at v up to names of binders. In the written term no
+-- `Type` is without a level, no goal stands, and the written type of each pair is a Sigma binder or a `#`.
 pub record ReadsBack (names : Names) (es : List Entry) (place : Place) (text : List ℕ) (v : Assignment) (t : Core) : Type 0 where
   pub tokens : List Placed
   pub lexed : Tokens place text tokens
@@ -88,6 +90,17 @@ pub record ReadsBack (names : Names) (es : List Entry) (place : Place) (text : L
   pub core : Core
   pub read : ReadsExplicitly es no_variables [] written core
   pub same : marked [] core ≡ marked v t
+  pub printable : is_printable written ≡ true
+
+-- a printed name is free
+abbrev pub PrintedNamesAreFree : Type 0
+PrintedNamesAreFree = (scope : Scope) (wished : List ℕ) → names_in_use scope < 2 ^ 64 → is_free scope (printed_name scope wished) ≡ true
+
+-- and a name, where the wished one is
+abbrev pub PrintedNamesAreNames : Type 0
+PrintedNamesAreNames =
+    (scope : Scope) (wished : List ℕ) → names_in_use scope < 2 ^ 64 → token_of wished ≡ Some (Name wished)
+    → token_of (printed_name scope wished) ≡ Some (Name (printed_name scope wished))
 
 -- a printed term reads back, at the levels shown
 abbrev pub PrintedTermsReadBack : Type 0
