@@ -56,13 +56,15 @@ module _ (levels : Shown) (v : Assignment) (names : Names) (es : List Entry) (le
   bound_more : (scope : Scope) (locals : Reading) (name : Option ℕ) (x : LocalVariable) (b : IsBinderText names scope (binder_name scope name))
       → local_name x ≡ Some b.text_is.number → AreBound scope locals → AreBound (bound scope name) (x ∷ locals)
   bound_more scope locals name x b is are =
-      let free = printed_free scope (wished_name scope.names name) b.few in
-      (record {
-        text_is = b.text_is;
-        name = is;
-        no_entry = free_no_entry scope (binder_name scope name) free;
-        no_local = free_no_local scope (binder_name scope name) free;
-      }, are)
+      let free = printed_free scope (wished_name scope.names name) b.few in (
+        record {
+          text_is = b.text_is;
+          name = is;
+          no_entry = free_no_entry scope (binder_name scope name) free;
+          no_local = free_no_local scope (binder_name scope name) free;
+        },
+        are,
+      )
 
   local_both : (scope : Scope) (locals : Reading) (wanted i : ℕ) (text : List ℕ) → slice_get scope.locals i ≡ Some (Some text) → AreBound scope locals
       → Both names es locals wanted (local_text scope i) (Var i)
@@ -129,16 +131,16 @@ module _ (levels : Shown) (v : Assignment) (names : Names) (es : List Entry) (le
   pi_both : (scope : Scope) (locals : Reading) (wanted : ℕ) (x : Binder) (a b : Core) (u : Bool) → is_arrow x b ≡ u
       → IsReadAs scope locals 1 a → IsReadAs scope locals 0 a → MatchBool u (ReadsNone scope locals 0 b) (ReadsBound scope locals x.name b)
       → CanRead names es locals Term (if u
-        then term_text levels scope 1 a ++ codes "->" ++ term_text levels (unbound scope) 0 b
-        else codes "{" ++ binder_name scope x.name ++ sign_text x.mark ++ term_text levels scope 0 a ++ codes "}" ++ term_text levels (bound scope x.name) 0 b) (Pi x.mark (marked v a) (marked v b))
+      then term_text levels scope 1 a ++ codes "->" ++ term_text levels (unbound scope) 0 b
+      else codes "{" ++ binder_name scope x.name ++ sign_text x.mark ++ term_text levels scope 0 a ++ codes "}" ++ term_text levels (bound scope x.name) 0 b) (Pi x.mark (marked v a) (marked v b))
       × IsNoStar (if u
-        then term_text levels scope 1 a ++ codes "->" ++ term_text levels (unbound scope) 0 b
-        else codes "{" ++ binder_name scope x.name ++ sign_text x.mark ++ term_text levels scope 0 a ++ codes "}" ++ term_text levels (bound scope x.name) 0 b)
+      then term_text levels scope 1 a ++ codes "->" ++ term_text levels (unbound scope) 0 b
+      else codes "{" ++ binder_name scope x.name ++ sign_text x.mark ++ term_text levels scope 0 a ++ codes "}" ++ term_text levels (bound scope x.name) 0 b)
   pi_both scope locals wanted x a b true e A1 A0 B =
       let text = term_text levels scope 1 a ++ codes "->" ++ term_text levels (unbound scope) 0 b in
       let plain : x.mark ≡ Plain = plain_is x.mark (and_true (is_plain x.mark) (is_unused b) e).0 in (
         subst (λ (m : Mark). CanRead names es locals Term text (Pi m (marked v a) (marked v b))) (sym plain)
-        (arrow_read names es (term_text levels scope 1 a) (term_text levels (unbound scope) 0 b) (marked v a) (marked v b) A1.read B.read),
+            (arrow_read names es (term_text levels scope 1 a) (term_text levels (unbound scope) 0 b) (marked v a) (marked v b) A1.read B.read),
         no_star_more (term_text levels scope 1 a ++ codes "->") (term_text levels (unbound scope) 0 b) (no_star_more (term_text levels scope 1 a) (codes "->") A1.star),
       )
   pi_both scope locals wanted x a b false e A1 A0 B = (bind_both scope locals wanted x.mark x.name a b B.0 A0 B.1, no_star_of 123 _ refl)
@@ -147,8 +149,8 @@ module _ (levels : Shown) (v : Assignment) (names : Names) (es : List Entry) (le
   sigma_read : (scope : Scope) (locals : Reading) (name : Option ℕ) (a b : Core) (u : Bool) → IsReadAs scope locals 2 a → IsReadAs scope locals 0 a
       → MatchBool u (ReadsNone scope locals 1 b) (ReadsBound scope locals name b)
       → SigmaRead names es locals (if u then 1 else 0) (if u
-        then term_text levels scope 2 a ++ codes "#" ++ term_text levels (unbound scope) 1 b
-        else codes "<" ++ binder_name scope name ++ codes ":" ++ term_text levels scope 0 a ++ codes ">" ++ term_text levels (bound scope name) 0 b) (marked v a) (marked v b)
+      then term_text levels scope 2 a ++ codes "#" ++ term_text levels (unbound scope) 1 b
+      else codes "<" ++ binder_name scope name ++ codes ":" ++ term_text levels scope 0 a ++ codes ">" ++ term_text levels (bound scope name) 0 b) (marked v a) (marked v b)
   unfolding hash_read two_parts bind_read binder_parts as_term as_form
   sigma_read scope locals name a b true A2 A0 B =
       let r = hash_read names es (term_text levels scope 2 a) (term_text levels (unbound scope) 1 b) (marked v a) (marked v b) A2.read B.read in

@@ -186,10 +186,11 @@ form_push [] d h k = absurd (cc)
 form_push (b ∷ ds) d h k = let t = and_true (is_digit b) (list_all is_digit ds) h in rw (t.0, all_push ds d t.1 k) refl
 
 numeral_more : (n : ℕ) (ds : List ℕ) → 10 ≤ n → IsNumeral (n / 10) ds → IsNumeral n (ds ++ (48 + n % 10) ∷ [])
-numeral_more n ds l h =
-    (form_push ds (48 + n % 10) h.0 (last_digit n),
-    let push = value_push ds (48 + n % 10) 0 in let value : number_value ds ≡ n / 10 = h.1 in
-    push ∙ (let e : 10 * (n / 10) + ((48 + n % 10) - 48) ≡ n = omega arith in ap (λ k. 10 * k + ((48 + n % 10) - 48)) value ∙ e))
+numeral_more n ds l h = (
+  form_push ds (48 + n % 10) h.0 (last_digit n),
+  let push = value_push ds (48 + n % 10) 0 in let value : number_value ds ≡ n / 10 = h.1 in
+      push ∙ (let e : 10 * (n / 10) + ((48 + n % 10) - 48) ≡ n = omega arith in ap (λ k. 10 * k + ((48 + n % 10) - 48)) value ∙ e),
+)
 
 numeral_one : (n : ℕ) → n < 10 → IsNumeral n ((48 + n) ∷ [])
 numeral_one n l = (rw (one_digit n l) refl, omega arith)

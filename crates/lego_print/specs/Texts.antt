@@ -69,8 +69,8 @@ term_text levels scope wanted Prop = codes "Prop"
 term_text levels scope wanted (Univ l) = level_text levels l
 term_text levels scope wanted (Pi x a b) =
     ranked 0 wanted (if is_arrow x b
-      then term_text levels scope 1 a ++ codes "->" ++ term_text levels (unbound scope) 0 b
-      else codes "{" ++ binder_name scope x.name ++ sign_text x.mark ++ term_text levels scope 0 a ++ codes "}" ++ term_text levels (bound scope x.name) 0 b)
+    then term_text levels scope 1 a ++ codes "->" ++ term_text levels (unbound scope) 0 b
+    else codes "{" ++ binder_name scope x.name ++ sign_text x.mark ++ term_text levels scope 0 a ++ codes "}" ++ term_text levels (bound scope x.name) 0 b)
 term_text levels scope wanted (Lam x a m) =
     ranked 0 wanted
     (codes "[" ++ binder_name scope x.name ++ sign_text x.mark ++ term_text levels scope 0 a ++ codes "]" ++ term_text levels (bound scope x.name) 0 m)
@@ -78,13 +78,13 @@ term_text levels scope wanted (App mark m n) =
     ranked 2 wanted (term_text levels scope 2 m ++ argument_sign mark ++ term_text levels scope 3 n)
 term_text levels scope wanted (Sigma x a b) =
     ranked (sigma_rank b) wanted (if is_unused b
-      then term_text levels scope 2 a ++ codes "#" ++ term_text levels (unbound scope) 1 b
-      else codes "<" ++ binder_name scope x.name ++ codes ":" ++ term_text levels scope 0 a ++ codes ">" ++ term_text levels (bound scope x.name) 0 b)
+    then term_text levels scope 2 a ++ codes "#" ++ term_text levels (unbound scope) 1 b
+    else codes "<" ++ binder_name scope x.name ++ codes ":" ++ term_text levels scope 0 a ++ codes ">" ++ term_text levels (bound scope x.name) 0 b)
 term_text levels scope wanted (Pair x a b m n) =
     codes "(" ++ term_text levels scope 0 m ++ codes "," ++ term_text levels scope 0 n ++ codes ":"
     ++ (if is_unused b
-      then term_text levels scope 2 a ++ codes "#" ++ term_text levels (unbound scope) 1 b
-      else codes "<" ++ binder_name scope x.name ++ codes ":" ++ term_text levels scope 0 a ++ codes ">" ++ term_text levels (bound scope x.name) 0 b)
+    then term_text levels scope 2 a ++ codes "#" ++ term_text levels (unbound scope) 1 b
+    else codes "<" ++ binder_name scope x.name ++ codes ":" ++ term_text levels scope 0 a ++ codes ">" ++ term_text levels (bound scope x.name) 0 b)
     ++ codes ")"
 term_text levels scope wanted (Fst m) = term_text levels scope 3 m ++ codes ".1"
 term_text levels scope wanted (Snd m) = term_text levels scope 3 m ++ codes ".2"

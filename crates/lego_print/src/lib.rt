@@ -21,4 +21,3 @@ pub use laws::{printed_names_are_free, printed_names_are_names, printed_terms_re
 pub use refusal::{Details, cause_text, details_text, refusal_text};
 pub use shown::Shown;
 pub use text::{entry_command, entry_text, term_text};
-

@@ -30,11 +30,7 @@ pub(crate) fn push_number(text: &mut Vec<u8>, number: u64) -> Result<(), AllocEr
 }
 
 /// Adds the bytes where the condition holds.
-pub(crate) fn push_if(
-    text: &mut Vec<u8>,
-    condition: bool,
-    bytes: &[u8],
-) -> Result<(), AllocError>
+pub(crate) fn push_if(text: &mut Vec<u8>, condition: bool, bytes: &[u8]) -> Result<(), AllocError>
     ensures { OnOk result (text.new.items ≡ text.old.items ++ (if condition then bytes.now else [])) }
 {
     if condition {

@@ -123,11 +123,7 @@ fn push_cause(text: &mut Vec<u8>, heading: Heading, details: &[u8]) -> Result<()
 }
 
 /// The cause text of a refusal: its name and its details.
-pub fn cause_text(
-    alloc: Global,
-    heading: Heading,
-    details: &[u8],
-) -> Result<Vec<u8>, AllocError>
+pub fn cause_text(alloc: Global, heading: Heading, details: &[u8]) -> Result<Vec<u8>, AllocError>
     ensures { IfOk result (λ text. text.items ≡ cause_text heading details.now) }
 {
     let mut text = Vec::new(alloc);

@@ -106,9 +106,15 @@ fn forms_have_their_texts(rt: HostRuntime) -> Result<(), Fail> {
         (sigma(alloc, NONE, &a, &sigma_bound)?, b"A#(<z:A>f z)"),
         (apply(alloc, &applied, &b)?, b"f A B"),
         (apply(alloc, &f, &applied)?, b"f (f A)"),
-        (app(alloc, Mark::Implicit, &applied, &applied)?, b"f A|(f A)"),
+        (
+            app(alloc, Mark::Implicit, &applied, &applied)?,
+            b"f A|(f A)",
+        ),
         (pair(alloc, NONE, &a, &b, &a, &arrow)?, b"(A,A->B:A#B)"),
-        (pair(alloc, z, &a, &apply(alloc, &f, &v)?, &a, &b)?, b"(A,B:<z:A>f z)"),
+        (
+            pair(alloc, z, &a, &apply(alloc, &f, &v)?, &a, &b)?,
+            b"(A,B:<z:A>f z)",
+        ),
         (fst(alloc, &snd(alloc, &f)?)?, b"f.2.1"),
         (snd(alloc, &applied)?, b"(f A).2"),
     ];
@@ -154,9 +160,18 @@ fn binders_get_free_names(rt: HostRuntime) -> Result<(), Fail> {
         (lam(alloc, x, &p, &v)?, b"[x1:Prop]x1"),
         (lam(alloc, NONE, &p, &v)?, b"[x1:Prop]x1"),
         (lam(alloc, c, &p, &v)?, b"[c11:Prop]c11"),
-        (lam(alloc, z, &p, &lam(alloc, z, &v, &both)?)?, b"[z:Prop][z1:z]z z1"),
-        (lam(alloc, x, &p, &lam(alloc, NONE, &v, &both)?)?, b"[x1:Prop][x2:x1]x1 x2"),
-        (lam(alloc, z, &pi(alloc, z, &p, &v)?, &lam(alloc, z, &p, &v)?)?, b"[z:{z:Prop}z][z1:Prop]z1"),
+        (
+            lam(alloc, z, &p, &lam(alloc, z, &v, &both)?)?,
+            b"[z:Prop][z1:z]z z1",
+        ),
+        (
+            lam(alloc, x, &p, &lam(alloc, NONE, &v, &both)?)?,
+            b"[x1:Prop][x2:x1]x1 x2",
+        ),
+        (
+            lam(alloc, z, &pi(alloc, z, &p, &v)?, &lam(alloc, z, &p, &v)?)?,
+            b"[z:{z:Prop}z][z1:Prop]z1",
+        ),
     ];
     for (term, wanted) in cases {
         let made = text(&desk, &term, Shown::Least(&[]))?;
@@ -174,7 +189,10 @@ fn arrows_reserve_no_name_and_binders_around_do(rt: HostRuntime) -> Result<(), F
     let inner = lam(alloc, z, &p, &var(alloc, 0)?)?;
     let arrow = pi(alloc, z, &p, &inner)?;
     let made = text(&desk, &arrow, Shown::Least(&[]))?;
-    assert!(rt; made.as_slice() == b"Prop->[z:Prop]z".as_slice(), "{made:?}");
+    assert!(rt;
+        made.as_slice() == b"Prop->[z:Prop]z".as_slice(),
+        "{made:?}"
+    );
     let mut under = Vec::new(alloc);
     under.push(z)?;
     under.push(NONE)?;

@@ -9,4 +9,4 @@ invariant-loop-x g l =
     (l.page.text.items ≡ [])
     × AreCounted l.names (g.E.Entries.called l.entries) (g.E.Entries.in_scope l.entries) l.page.locals
     × (scope_of l.names (g.E.Entries.called l.entries) (g.E.Entries.in_scope l.entries) l.page.locals
-      ≡ under_all (outer_scope l.names (g.E.Entries.called l.entries) (g.E.Entries.in_scope l.entries)) (take l.x-index l.x-items))
+    ≡ under_all (outer_scope l.names (g.E.Entries.called l.entries) (g.E.Entries.in_scope l.entries)) (take l.x-index l.x-items))

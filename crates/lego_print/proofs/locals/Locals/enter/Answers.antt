@@ -9,7 +9,7 @@ pub invariant_of-self-2 : goal.invariant_of-self-2
 invariant_of-self-2 c =
     let items : c.push.new.self.items ≡ c.self.inside.frames.items ++ Some c.args.frame ∷ [] = cc (c.in-Ok-push.ensures.items, c.in_ok-reserve.ensures.items) in (
       keys-push (λ t. t.items) c.self.inside.texts.keys c.insert.new.self.keys c.in_ok-text.text c.self.inside.frames.items c.args.frame
-      c.self.invariant.0 (c.in_ok-text.ensures.items ∙ c.as_slice.ensures.value) (ap (λ ls. list_any (is_printed_as c.args.frame.text.items) (printed ls)) c.self.view_is ∙ c.requires) c.in-Ok.ensures.keys
-      ∙ ap frame_texts (sym items),
-      omega (arith, c.in-Ok-push.ensures.len, c.in_ok-reserve.ensures.len, c.self.invariant.1)
+          c.self.invariant.0 (c.in_ok-text.ensures.items ∙ c.as_slice.ensures.value) (ap (λ ls. list_any (is_printed_as c.args.frame.text.items) (printed ls)) c.self.view_is ∙ c.requires) c.in-Ok.ensures.keys
+          ∙ ap frame_texts (sym items),
+      omega (arith, c.in-Ok-push.ensures.len, c.in_ok-reserve.ensures.len, c.self.invariant.1),
     )
