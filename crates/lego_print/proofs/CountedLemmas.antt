@@ -7,8 +7,8 @@ use Rattle.std.proofs.lemmas.Cmp.{nat_list_eq_equiv}
 use Rattle.std.proofs.lemmas.Option.{same_Some}
 use Rattle.lego_grammar.specs.Grammar.{Names}
 use Rattle.lego_print.specs.Names.{Scope, is_text_of, is_printed_as, is_free, numbered, wished_name, under}
-use Rattle.lego_print.specs.private.Numbered.{Numbered, scope_of, printed}
-use Rattle.lego_print.specs.private.Counted.{AreTaken, IsCounted, AreCounted, IsAmong}
+use Rattle.lego_print.specs.private.Numbered.{Numbered, scope_of}
+use Rattle.lego_print.specs.private.Counted.{AreTaken, IsCounted, AreCounted}
 
 still : (e p l : Bool) → not (e || l) ≡ false → not (e || (p || l)) ≡ false
 still true p l h = refl

@@ -1,34 +1,28 @@
 -- Each form of a term is read where its parts are, in the rank that is wanted.
-use Rattle.std.proofs.Common.{◌≡◌, ℕ, zero, suc, ◌<◌, ◌≤◌, ◌^◌, Bool, true, false, nat_lt, nat_eq, if◌then◌else◌, List, [], ◌∷◌, ◌++◌, Option, Some, None, option_map, refl, sym, ap, ◌∙◌, subst, arith}
+use Rattle.std.proofs.Common.{◌≡◌, ℕ, zero, suc, ◌<◌, ◌≤◌, ◌^◌, Bool, true, false, nat_lt, if◌then◌else◌, List, [], ◌∷◌, ◌++◌, Option, Some, None, option_map, refl, ap, arith}
 use Rattle.std.specs.Prelude.{decimal, codes}
 use Rattle.std.proofs.lemmas.Bool.Decides.{nat_tests}
-use Rattle.lego_base.specs.declared.place.Place.{Place}
-use Rattle.lego_term.specs.Levels.{Assignment, level_value}
-use Rattle.lego_term.specs.Trees.{Tree, Core, Var, Const, Prop, Univ, Pi, Lam, App, Sigma, Pair, Fst, Snd, Let}
-use Rattle.lego_term.specs.declared.binder.Binder.{Binder}
+use Rattle.lego_term.specs.Trees.{Univ, Pi, App, Sigma, Fst, Snd, Let}
 use Rattle.lego_term.specs.declared.binder.Mark.{Mark}
 use Rattle.lego_term.specs.declared.binder.Mark.TheVariants.{Plain, Implicit}
-use Rattle.lego_term.specs.declared.level.Level.{Level}
 use Rattle.lego_laws.specs.Entries.{Entry}
-use Rattle.lego_lexer.specs.Bytes.{goes_on_in_name}
 use Rattle.lego_lexer.specs.Tokens.{Lexeme, Name, Number, OfWord, OfSymbol, word_text, words, symbol_text, symbols, written_as, has_name_form, has_number_form, number_value, or_else, token_of}
 use Rattle.lego_lexer.specs.declared.token.Word.{Word}
 use Rattle.lego_lexer.specs.declared.token.Symbol.{Symbol}
 use Rattle.lego_lexer.specs.declared.token.Symbol.TheVariants.{OpenSquare, CloseSquare, Equals, Hash, Arrow, Bar}
-use Rattle.lego_lexer.proofs.TokenLemmas.{Stops}
-use Rattle.lego_grammar.specs.Grammar.{Names, Nested, Form, Term, Ending, Sum, Spine, Post, Atom, Reads as Parse, opening, closing, sign, MayBind, NameList}
+use Rattle.lego_grammar.specs.Grammar.{Names, Nested, Form, Term, Sum, Spine, Post, Atom, Reads as Parse, opening, closing, sign, MayBind, NameList}
 use Rattle.lego_grammar.specs.Written.{Written, Bind, Local, Apply}
 use Rattle.lego_grammar.specs.declared.surface.Kind.{Kind}
 use Rattle.lego_grammar.specs.declared.surface.Kind.TheVariants as Kinds
 use Rattle.lego_grammar.specs.declared.surface.Part.TheVariants as Parts
-use Rattle.lego_grammar.specs.Scopes.{LocalVariable, Scope as Reading, no_variables}
+use Rattle.lego_grammar.specs.Scopes.{LocalVariable, Scope as Reading}
 use Rattle.lego_grammar.specs.Reading.{ReadsExplicitly, bind_core, binder}
 use Rattle.lego_grammar.specs.Denotes.{MarkedTerm}
 use Rattle.lego_grammar.specs.Developments.{is_printable}
-use Rattle.lego_print.specs.ReadBack.{marked, IsHeldText}
+use Rattle.lego_print.specs.ReadBack.{IsHeldText}
 use Rattle.lego_print.specs.Texts.{ranked}
-use Rattle.lego_print.proofs.ReadTokens.{IsNoStar, no_star_of, no_star_more, MayStand, IsNameText, name_text_is, name_star, IsToken, number_stands, IsNumberText, decimal_text}
-use Rattle.lego_print.proofs.ReadParts.{CanRead, IsJoined, both_true, bind_marked, bind-marked, as_form, name_read, prop_read, two_parts, blank_parts, binder_parts, parens_read, projected, level_read, pair_read}
+use Rattle.lego_print.proofs.ReadTokens.{IsNoStar, no_star_of, MayStand, IsNameText, name_text_is, number_stands, decimal_text}
+use Rattle.lego_print.proofs.ReadParts.{CanRead, both_true, bind_marked, bind-marked, as_form, two_parts, binder_parts, parens_read, projected, level_read}
 
 -- the form of each rank
 abbrev pub form_of : ℕ → Form

@@ -1,26 +1,25 @@
 -- The texts of the forms of terms are lexed, parsed and read, where those of the parts are.
-use Rattle.std.proofs.Common.{◌≡◌, ℕ, zero, suc, ◌+◌, ◌<◌, ◌≤◌, Bool, true, false, ◌&&◌, nat_lt, if◌then◌else◌, List, [], ◌∷◌, ◌++◌, map, length, Option, Some, None, refl, sym, ap, ap₂, ◌∙◌, subst, arith, append_assoc}
-use Rattle.std.proofs.lemmas.Bool.Decides.{nat_tests}
-use Rattle.lego_term.specs.Levels.{Assignment, level_value, fixed_level}
-use Rattle.lego_term.specs.Trees.{Tree, Core, Var, Const, Prop, Univ, Pi, Lam, App, Sigma, Pair, Fst, Snd, Let, map_tree}
+use Rattle.std.proofs.Common.{◌≡◌, ℕ, suc, ◌+◌, Bool, true, ◌&&◌, List, [], ◌∷◌, ◌++◌, map, refl, sym, ap, ◌∙◌, subst, arith, append_assoc}
+use Rattle.lego_term.specs.Levels.{fixed_level}
+use Rattle.lego_term.specs.Trees.{Core, Prop, Univ, Pi, Lam, App, Sigma, Pair}
 use Rattle.lego_term.specs.declared.binder.Binder.{Binder}
 use Rattle.lego_term.specs.declared.binder.Mark.{Mark}
-use Rattle.lego_term.specs.declared.binder.Mark.TheVariants.{Plain, Implicit}
+use Rattle.lego_term.specs.declared.binder.Mark.TheVariants.{Plain}
 use Rattle.lego_base.specs.declared.place.Place.{Place}
 use Rattle.lego_laws.specs.Entries.{Entry}
 use Rattle.lego_lexer.specs.Bytes.{goes_on_in_name}
-use Rattle.lego_lexer.specs.Tokens.{Lexeme, Name, Number, OfWord, OfSymbol, symbol_text, token_of, Point, Placed, Reads as Lexes, past}
+use Rattle.lego_lexer.specs.Tokens.{Lexeme, Name, Number, OfWord, OfSymbol, symbol_text, Point, Placed, Reads as Lexes, past}
 use Rattle.lego_lexer.specs.declared.token.Word.TheVariants as Word
 use Rattle.lego_lexer.specs.declared.token.Symbol.{Symbol}
-use Rattle.lego_lexer.specs.declared.token.Symbol.TheVariants.{OpenSquare, CloseSquare, OpenParen, CloseParen, Colon, Comma, Equals, Dot, Hash, Arrow, Bar}
+use Rattle.lego_lexer.specs.declared.token.Symbol.TheVariants.{OpenParen, CloseParen, Colon, Comma, Dot}
 use Rattle.lego_lexer.proofs.LexLemmas.{reads_join}
 use Rattle.lego_lexer.proofs.TokenLemmas.{Stops}
-use Rattle.lego_grammar.specs.Grammar.{Names, Nested, Item, Form, Term, Ending, Sum, Spine, Post, Atom, Reads as Parse, item, symbol, word, token, opening, closing, sign, MayBind, NameList}
-use Rattle.lego_grammar.specs.Written.{Written, Named, WrittenProp, TypeAt, Bind, Local, Apply, Pair as Pairs, Project}
+use Rattle.lego_grammar.specs.Grammar.{Names, Nested, Item, Form, Term, Spine, Post, Atom, Reads as Parse, item, symbol, word, token}
+use Rattle.lego_grammar.specs.Written.{Written, Named, WrittenProp, TypeAt, Apply, Pair as Pairs, Project}
 use Rattle.lego_grammar.specs.declared.surface.Kind.{Kind}
 use Rattle.lego_grammar.specs.declared.surface.Kind.TheVariants as Kinds
 use Rattle.lego_grammar.specs.declared.surface.Part.{Part}
-use Rattle.lego_grammar.specs.Scopes.{LocalVariable, Scope, no_variables}
+use Rattle.lego_grammar.specs.Scopes.{Scope, no_variables}
 use Rattle.lego_grammar.specs.Reading.{ReadsExplicitly, Annotates, bind_core, project_core, is_sigma}
 use Rattle.lego_grammar.specs.Denotes.{MarkedTerm, grammar_tokens}
 use Rattle.lego_grammar.specs.Developments.{is_printable, is_written_sigma}

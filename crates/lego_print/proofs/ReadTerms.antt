@@ -1,9 +1,9 @@
 -- A printed term is read as the term, in each rank.
-use Rattle.std.proofs.Common.{◌≡◌, ℕ, zero, suc, ◌<◌, ◌^◌, Bool, true, false, ◌&&◌, if◌then◌else◌, List, [], ◌∷◌, ◌++◌, append-nil, Option, Some, None, unwrap_or, refl, sym, ap, ◌∙◌, subst, arith}
+use Rattle.std.proofs.Common.{◌≡◌, ℕ, ◌<◌, ◌^◌, Bool, true, false, if◌then◌else◌, List, [], ◌∷◌, ◌++◌, append-nil, Option, Some, None, unwrap_or, refl, sym, ap, subst, arith}
 use Rattle.std.specs.Prelude.{codes, decimal, slice_get, option_and_then, MatchBool}
 use Rattle.lego_base.specs.declared.place.Place.{Place}
 use Rattle.lego_term.specs.Levels.{Assignment, level_value}
-use Rattle.lego_term.specs.Trees.{Tree, Core, Var, Const, Prop, Univ, Pi, Lam, App, Sigma, Pair, Fst, Snd, Let}
+use Rattle.lego_term.specs.Trees.{Core, Var, Const, Prop, Univ, Pi, Lam, App, Sigma, Pair, Fst, Snd, Let}
 use Rattle.lego_term.specs.declared.binder.Binder.{Binder}
 use Rattle.lego_term.specs.declared.binder.Mark.{Mark}
 use Rattle.lego_term.specs.declared.binder.Mark.TheVariants.{Plain, Implicit}
@@ -12,7 +12,7 @@ use Rattle.lego_laws.specs.Entries.{Entry}
 use Rattle.lego_lexer.specs.Bytes.{goes_on_in_name, Gap}
 use Rattle.lego_lexer.specs.Tokens.{Point, start, Reads as Lexes}
 use Rattle.lego_lexer.proofs.TokenLemmas.{Stops, and_true}
-use Rattle.lego_grammar.specs.Grammar.{Names, Form, Term, Post, Atom}
+use Rattle.lego_grammar.specs.Grammar.{Names, Term, Post}
 use Rattle.lego_grammar.specs.Written.{Named}
 use Rattle.lego_grammar.specs.declared.surface.Kind.TheVariants as Kinds
 use Rattle.lego_grammar.specs.Scopes.{LocalVariable, Scope as Reading, no_variables, local_name}
@@ -21,14 +21,14 @@ use Rattle.lego_grammar.specs.Denotes.{MarkedTerm}
 use Rattle.lego_grammar.specs.Developments.{is_written_sigma}
 use Rattle.lego_print.specs.declared.shown.Shown.{Shown}
 use Rattle.lego_print.specs.declared.shown.Shown.TheVariants.{Least, Hidden}
-use Rattle.lego_print.specs.Names.{Scope, printed_name, wished_name}
+use Rattle.lego_print.specs.Names.{Scope, wished_name}
 use Rattle.lego_print.specs.Texts.{term_text, level_text, local_text, constant_text, binder_name, bound, unbound, is_arrow, is_unused, is_plain, sigma_rank, sign_text, argument_sign, ranked}
-use Rattle.lego_print.specs.ReadBack.{IsLeast, marked, IsHeldText, IsEntryText, IsBinderText, IsReadable, ReadsBack}
+use Rattle.lego_print.specs.ReadBack.{IsLeast, marked, IsEntryText, IsBinderText, IsReadable, ReadsBack}
 use Rattle.lego_print.proofs.FreeNames.{printed_free}
 use Rattle.lego_print.proofs.NamesLemmas.{free_no_local, free_no_entry}
 use Rattle.lego_print.proofs.ReadForms.{Both, form_of, both_atom, both_ranked, arrow_read, hash_read, bar_read, bind_read, local_read, first_read, second_read, univ_read, name_is, promote, post_to, as_term}
-use Rattle.lego_print.proofs.ReadLocals.{IsLocalText, AreLocals, IsFound, local_found, local_absent}
-use Rattle.lego_print.proofs.ReadParts.{CanRead, as_form, of_text, name_read, prop_read, two_parts, binder_parts, blank_parts, pair_read}
+use Rattle.lego_print.proofs.ReadLocals.{AreLocals, local_found, local_absent}
+use Rattle.lego_print.proofs.ReadParts.{CanRead, as_form, name_read, prop_read, two_parts, binder_parts, blank_parts, pair_read}
 use Rattle.lego_print.proofs.ReadTokens.{IsNoStar, no_star_of, no_star_more, name_star}
 
 -- the text of a Sigma type, which is read as one

@@ -1,5 +1,5 @@
 -- Tokens at the front of bytes.
-use Rattle.std.proofs.Common.{◌≡◌, ◌≢◌, ℕ, suc, ◌+◌, ◌-◌, ◌*◌, ◌/◌, ◌%◌, ◌<◌, ◌≤◌, ◌^◌, Bool, true, false, not, ◌&&◌, nat_eq, List, [], ◌∷◌, ◌++◌, map, length, Some, None, refl, sym, ap, ap₂, ◌∙◌, subst, arith, append_assoc}
+use Rattle.std.proofs.Common.{◌≡◌, ℕ, ◌+◌, ◌-◌, ◌*◌, ◌/◌, ◌%◌, ◌<◌, ◌≤◌, ◌^◌, Bool, true, false, ◌&&◌, nat_eq, List, [], ◌∷◌, ◌++◌, map, Some, refl, sym, ap, ap₂, ◌∙◌, subst, arith, append_assoc}
 use Rattle.std.specs.Prelude.{decimal, fold}
 use Rattle.std.specs.List.{list_all}
 use Rattle.std.proofs.lemmas.Bool.Decides.{nat_tests}
@@ -7,7 +7,7 @@ use Rattle.std.proofs.lemmas.Fmt.{decimal_by_steps}
 use Rattle.std.proofs.lemmas.List.{map-append}
 use Rattle.lego_base.specs.Place.{behind}
 use Rattle.lego_lexer.specs.Bytes.{is_digit, is_blank, begins_name, goes_on_in_name, begins_comment, BeginsToken, Gap}
-use Rattle.lego_lexer.specs.Tokens.{Lexeme, Name, Number, OfWord, OfSymbol, symbol_text, has_name_form, has_number_form, number_value, token_of, IsLongest, Point, Placed, Reads, past, placed_at}
+use Rattle.lego_lexer.specs.Tokens.{Lexeme, Number, OfSymbol, symbol_text, has_name_form, has_number_form, number_value, token_of, IsLongest, Point, Placed, Reads, past, placed_at}
 use Rattle.lego_lexer.specs.declared.token.Symbol.{Symbol}
 use Rattle.lego_lexer.specs.declared.token.Symbol.TheVariants.{OpenSquare, CloseSquare, OpenBrace, CloseBrace, OpenAngle, CloseAngle, OpenParen, CloseParen, Colon, Semicolon, Comma, Equals, Dot, Hash, Question, Arrow, Bar}
 use Rattle.lego_lexer.proofs.TokenLemmas.{Stops, and_true, name_longest, number_longest, symbol_longest, arrow_longest, number_token, digit_no_name, digit_no_symbol}

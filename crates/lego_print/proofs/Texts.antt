@@ -1,6 +1,5 @@
 -- Texts that are equal.
-use Rattle.std.proofs.Common.{◌≡◌, ℕ, true, ◌&&◌, nat_eq, List, [], ◌∷◌, refl, arith}
-use Rattle.std.proofs.lemmas.Bool.Decides.{nat_tests}
+use Rattle.std.proofs.Common.{◌≡◌, ℕ, true, nat_eq, List, [], ◌∷◌, refl}
 use Rattle.lego_base.specs.Names.{same_text}
 use Rattle.lego_lexer.proofs.TokenLemmas.{and_true, test_equal}
 

@@ -1,5 +1,5 @@
 -- Printed names: which texts are in use, and what a binder is called.
-use Rattle.std.specs.Prelude.{ℕ, ◌+◌, nat_eq, Bool, false, not, ◌||◌, if◌then◌else◌, List, [], ◌∷◌, ◌++◌, length, codes, decimal, Option, Some, None, option_map, unwrap_or, slice_get}
+use Rattle.std.specs.Prelude.{ℕ, ◌+◌, nat_eq, Bool, false, not, ◌||◌, if◌then◌else◌, List, [], ◌∷◌, ◌++◌, length, codes, decimal, Option, option_map, unwrap_or, slice_get}
 use Rattle.std.specs.List.{list_any, position_or_len, range_with_len}
 use Rattle.lego_base.specs.Names.{same_text}
 use Rattle.lego_grammar.specs.Grammar.{Names}

@@ -1,5 +1,5 @@
 -- The texts of terms, a clause for each form: the ranks of the parts stand before them.
-use Rattle.std.specs.Prelude.{ℕ, nat_lt, Bool, not, ◌&&◌, ◌||◌, if◌then◌else◌, List, [], ◌∷◌, ◌++◌, codes, decimal, Option, Some, None, option_map, unwrap_or, option_and_then, slice_get, fold}
+use Rattle.std.specs.Prelude.{ℕ, nat_lt, Bool, not, ◌&&◌, if◌then◌else◌, List, [], ◌++◌, codes, decimal, Option, Some, None, option_map, unwrap_or, option_and_then, slice_get, fold}
 use Rattle.lego_term.specs.Levels.{level_value}
 use Rattle.lego_term.specs.Trees.{Core, Var, Const, Prop, Univ, Pi, Lam, App, Sigma, Pair, Fst, Snd, Let, uses_variable}
 use Rattle.lego_term.specs.declared.binder.Binder.{Binder}

@@ -1,4 +1,4 @@
-use Rattle.std.proofs.Common.{◌≡◌, Some, None, [], ◌∷◌, ◌++◌, sym, ap, ◌∙◌, arith}
+use Rattle.std.proofs.Common.{◌≡◌, Some, None, [], ◌∷◌, ◌++◌, ap, ◌∙◌, arith}
 use Rattle.lego_print.specs.private.Numbered.{frame_texts}
 use Rattle.lego_print.proofs.LocalsLemmas.{keys-pop, texts-none}
 use Rattle.lego_print.proofs.locals.Locals.leave.Goals as goal

@@ -1,8 +1,8 @@
-use Rattle.std.proofs.Common.{◌≡◌, ◌-◌, ◌<◌, length, Option, Some, None, sym, ap, ◌∙◌, arith}
+use Rattle.std.proofs.Common.{◌≡◌, ◌-◌, ◌<◌, length, Some, None, sym, ap, ◌∙◌, arith}
 use Rattle.std.specs.Prelude.{slice_get}
 use Rattle.std.proofs.lemmas.Option.{slice_get-get_or}
 use Rattle.lego_print.specs.private.Numbered.{printed}
-use Rattle.lego_print.proofs.LocalsLemmas.{local_at, no_local, text_at}
+use Rattle.lego_print.proofs.LocalsLemmas.{local_at, text_at}
 use Rattle.lego_print.proofs.locals.Locals.text.Goals as goal
 
 pub returns-in-Some : goal.returns-in-Some

@@ -1,6 +1,5 @@
-use Rattle.std.proofs.Common.{◌≡◌, ◌<◌, suc, ap, sym, ◌∙◌, subst, arith}
+use Rattle.std.proofs.Common.{◌<◌, suc, ap, sym, ◌∙◌, arith}
 use Rattle.lego_print.specs.Names.{wished_name}
-use Rattle.lego_print.specs.private.Counted.{AreTaken}
 use Rattle.lego_print.specs.private.Numbered.{scope_of, numbered_frame}
 use Rattle.lego_print.proofs.CountedLemmas.{taken_by}
 use Rattle.lego_print.proofs.page.Printer.first_number.Goals as goal

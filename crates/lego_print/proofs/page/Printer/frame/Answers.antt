@@ -1,7 +1,7 @@
 use Rattle.std.proofs.Common.{◌≡◌, ◌+◌, true, false, sym, ap, below_more, ◌∙◌, arith}
 use Rattle.std.specs.List.{list_any}
-use Rattle.lego_print.specs.Names.{Scope, is_free, is_printed_as, numbered, wished_name, names_in_use}
-use Rattle.lego_print.specs.private.Numbered.{scope_of, printed}
+use Rattle.lego_print.specs.Names.{is_free, is_printed_as, numbered, wished_name, names_in_use}
+use Rattle.lego_print.specs.private.Numbered.{scope_of}
 use Rattle.lego_print.proofs.NamesLemmas.{first_free_is, free_no_local, in_use}
 use Rattle.lego_print.proofs.Pigeonhole.{last_is_free}
 use Rattle.lego_print.proofs.page.Printer.frame.Goals as goal

@@ -1,4 +1,4 @@
-use Rattle.std.proofs.Common.{◌≡◌, ℕ, ◌+◌, ◌<◌, length, false}
+use Rattle.std.proofs.Common.{◌≡◌, ℕ, ◌<◌, false}
 use Rattle.lego_print.specs.Names.{is_free, numbered, wished_name}
 use Rattle.lego_print.specs.private.Numbered.{scope_of}
 use Rattle.lego_print.proofs.page.Printer.frame.Given as goal
