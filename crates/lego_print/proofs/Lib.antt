@@ -1,0 +1,13 @@
+pub mod Texts
+pub mod Unused
+pub mod LocalsLemmas
+pub mod NamesLemmas
+pub mod Pigeonhole
+pub mod ReadTokens
+pub mod ReadParts
+pub mod FreeNames
+pub mod ReadLocals
+pub mod ReadForms
+pub mod ReadTerms
+pub mod CountedLemmas
+pub mod PrintedNames

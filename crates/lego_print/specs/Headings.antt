@@ -1,0 +1,96 @@
+-- The numbers and the names of refusals.
+use Rattle.std.specs.Prelude.{ℕ, List, codes}
+use Rattle.lego_print.specs.declared.heading.Heading.{Heading}
+use Rattle.lego_print.specs.declared.heading.Heading.TheVariants.{BadByte, OpenComment, LongName, BigLevel, Unexpected, TooDeep, Unended, LongCommand, NamesFull, UnknownName, UnknownGoal, NameInUse, NotAType, NotAFunction, NotAPair, Mismatch, Universe, Budget, TooLarge, LevelTooBig, Full, Circular, NotSigma, Clash, Occurs, Scope, HigherOrder, Solution, Unsolved, NoFit, CannotIntro, NoHypothesis, GoalsOpen, NoGoal, NoProof, InProof, NoName, TooFar, NotDevelopment, IllTyped, Costly, ImportCycle, NoModule, WrongModule}
+
+abbrev pub number_of : Heading → ℕ
+number_of BadByte = 1
+number_of OpenComment = 2
+number_of LongName = 3
+number_of BigLevel = 4
+number_of Unexpected = 5
+number_of TooDeep = 6
+number_of Unended = 7
+number_of LongCommand = 8
+number_of NamesFull = 9
+number_of UnknownName = 10
+number_of UnknownGoal = 11
+number_of NameInUse = 12
+number_of NotAType = 13
+number_of NotAFunction = 14
+number_of NotAPair = 15
+number_of Mismatch = 16
+number_of Universe = 17
+number_of Budget = 18
+number_of TooLarge = 19
+number_of LevelTooBig = 20
+number_of Full = 21
+number_of Circular = 22
+number_of NotSigma = 23
+number_of Clash = 24
+number_of Occurs = 25
+number_of Scope = 26
+number_of HigherOrder = 27
+number_of Solution = 28
+number_of Unsolved = 29
+number_of NoFit = 30
+number_of CannotIntro = 31
+number_of NoHypothesis = 32
+number_of GoalsOpen = 33
+number_of NoGoal = 34
+number_of NoProof = 35
+number_of InProof = 36
+number_of NoName = 37
+number_of TooFar = 38
+number_of NotDevelopment = 39
+number_of IllTyped = 40
+number_of Costly = 41
+number_of ImportCycle = 42
+number_of NoModule = 43
+number_of WrongModule = 44
+
+abbrev pub name_of : Heading → List ℕ
+name_of BadByte = codes "BadByte"
+name_of OpenComment = codes "OpenComment"
+name_of LongName = codes "LongName"
+name_of BigLevel = codes "BigLevel"
+name_of Unexpected = codes "Unexpected"
+name_of TooDeep = codes "TooDeep"
+name_of Unended = codes "Unended"
+name_of LongCommand = codes "LongCommand"
+name_of NamesFull = codes "NamesFull"
+name_of UnknownName = codes "UnknownName"
+name_of UnknownGoal = codes "UnknownGoal"
+name_of NameInUse = codes "NameInUse"
+name_of NotAType = codes "NotAType"
+name_of NotAFunction = codes "NotAFunction"
+name_of NotAPair = codes "NotAPair"
+name_of Mismatch = codes "Mismatch"
+name_of Universe = codes "Universe"
+name_of Budget = codes "Budget"
+name_of TooLarge = codes "TooLarge"
+name_of LevelTooBig = codes "LevelTooBig"
+name_of Full = codes "Full"
+name_of Circular = codes "Circular"
+name_of NotSigma = codes "NotSigma"
+name_of Clash = codes "Clash"
+name_of Occurs = codes "Occurs"
+name_of Scope = codes "Scope"
+name_of HigherOrder = codes "HigherOrder"
+name_of Solution = codes "Solution"
+name_of Unsolved = codes "Unsolved"
+name_of NoFit = codes "NoFit"
+name_of CannotIntro = codes "CannotIntro"
+name_of NoHypothesis = codes "NoHypothesis"
+name_of GoalsOpen = codes "GoalsOpen"
+name_of NoGoal = codes "NoGoal"
+name_of NoProof = codes "NoProof"
+name_of InProof = codes "InProof"
+name_of NoName = codes "NoName"
+name_of TooFar = codes "TooFar"
+name_of NotDevelopment = codes "NotDevelopment"
+name_of IllTyped = codes "IllTyped"
+name_of Costly = codes "Costly"
+name_of ImportCycle = codes "ImportCycle"
+name_of NoModule = codes "NoModule"
+name_of WrongModule = codes "WrongModule"

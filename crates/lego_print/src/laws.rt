@@ -1,0 +1,19 @@
+//! Laws of the texts, each the contract of a function that does nothing.
+ghost use Rattle.lego_print.specs.ReadBack.{PrintedNamesAreFree, PrintedNamesAreNames, PrintedTermsReadBack};
+
+/// A printed name is no name of an entry in scope and no printed name of an enclosing local
+/// variable.
+pub fn printed_names_are_free()
+    ensures { PrintedNamesAreFree }
+{}
+
+/// The printed name of a wished name that is a name is a name.
+pub fn printed_names_are_names()
+    ensures { PrintedNamesAreNames }
+{}
+
+/// A printed term without holes reads back, by the lexer, the grammar and the explicit reading,
+/// as the term at the levels shown, up to the names of binders.
+pub fn printed_terms_read_back()
+    ensures { PrintedTermsReadBack }
+{}

@@ -1,0 +1,150 @@
+//! The texts of refusals.
+ghost use Rattle.std.specs.Prelude.{◌≡◌, ◌<◌, ◌++◌, codes, decimal, OnOk, IfOk};
+ghost use Rattle.lego_print.specs.Refusals.{place_text, hex_digit, byte_text, details_text, cause_text, refusal_text};
+
+use crate::heading::Heading;
+use crate::pieces::push_number;
+use lego_base::Place;
+use std::alloc::{AllocError, Global};
+
+/// Details of a refusal that need no context.
+#[derive(Clone, Copy)]
+pub enum Details<'a> {
+    Nothing,
+    /// Of BadByte.
+    Byte(u8),
+    /// A token or a name: of Unexpected, UnknownName, NameInUse, Unsolved and NoModule.
+    Text(&'a [u8]),
+    /// Of LongCommand, LevelTooBig and GoalsOpen, and of NoGoal without a number.
+    Count(u64),
+    /// Of TooLarge and TooFar.
+    Counts(u64, u64),
+    /// Of UnknownGoal.
+    Goal(u32),
+    /// A goal and how many are left: of NoGoal with a number.
+    GoalOf(u32, u32),
+    /// A goal, how many names are given and how many products are found: of CannotIntro.
+    Intro(u32, u32, u32),
+    /// How many entries are held: of Full.
+    Entries(u32),
+    /// How many level variables are held: of Full.
+    Levels(u32),
+}
+
+/// Adds a place: its line, a colon, its column.
+fn push_place(text: &mut Vec<u8>, place: Place) -> Result<(), AllocError>
+    ensures { OnOk result (text.new.items ≡ text.old.items ++ place_text place) }
+{
+    push_number(text, u64::from(place.line))?;
+    text.extend_from_slice(b":")?;
+    push_number(text, u64::from(place.column))
+}
+
+/// A hexadecimal digit, with capital letters.
+fn hex_digit(n: u8) -> u8
+    requires { n < 16 }
+    ensures { result ≡ hex_digit n }
+{
+    if n < 10 { b'0' + n } else { b'A' + (n - 10) }
+}
+
+/// Adds a byte as it is where it is printed, else `\x` and its two hexadecimal digits.
+fn push_byte(text: &mut Vec<u8>, byte: u8) -> Result<(), AllocError>
+    ensures { OnOk result (text.new.items ≡ text.old.items ++ byte_text byte) }
+{
+    if (0x21..=0x7E).contains(&byte) {
+        return text.extend_from_slice(&[byte]);
+    }
+    text.extend_from_slice(b"\\x")?;
+    text.extend_from_slice(&[hex_digit(byte / 16), hex_digit(byte % 16)])
+}
+
+/// Adds two numbers with a comma between them.
+fn push_counts(text: &mut Vec<u8>, first: u64, second: u64) -> Result<(), AllocError>
+    ensures { OnOk result (text.new.items ≡ text.old.items ++ (decimal first ++ codes ", " ++ decimal second)) }
+{
+    push_number(text, first)?;
+    text.extend_from_slice(b", ")?;
+    push_number(text, second)
+}
+
+/// Adds a piece and a number.
+fn push_counted(text: &mut Vec<u8>, piece: &[u8], number: u32) -> Result<(), AllocError>
+    ensures { OnOk result (text.new.items ≡ text.old.items ++ (piece.now ++ decimal number)) }
+{
+    text.extend_from_slice(piece)?;
+    push_number(text, u64::from(number))
+}
+
+/// Adds details.
+fn push_details(text: &mut Vec<u8>, details: Details<'_>) -> Result<(), AllocError>
+    ensures { OnOk result (text.new.items ≡ text.old.items ++ details_text details.entry) }
+{
+    match details {
+        Details::Nothing => Ok(()),
+        Details::Byte(byte) => push_byte(text, byte),
+        Details::Text(piece) => text.extend_from_slice(piece),
+        Details::Count(n) => push_number(text, n),
+        Details::Counts(m, n) => push_counts(text, m, n),
+        Details::Goal(n) => push_counted(text, b"?", n),
+        Details::GoalOf(n, left) => {
+            push_counted(text, b"?", n)?;
+            push_counted(text, b", ", left)
+        }
+        Details::Intro(n, given, found) => {
+            push_counted(text, b"?", n)?;
+            push_counted(text, b" ", given)?;
+            push_counted(text, b", ", found)
+        }
+        Details::Entries(held) => push_counted(text, b"entries ", held),
+        Details::Levels(held) => push_counted(text, b"levels ", held),
+    }
+}
+
+/// The text of details that need no context.
+pub fn details_text(alloc: Global, details: Details<'_>) -> Result<Vec<u8>, AllocError>
+    ensures { IfOk result (λ text. text.items ≡ details_text details.entry) }
+{
+    let mut text = Vec::new(alloc);
+    push_details(&mut text, details)?;
+    Ok(text)
+}
+
+/// Adds the name of a refusal and its details.
+fn push_cause(text: &mut Vec<u8>, heading: Heading, details: &[u8]) -> Result<(), AllocError>
+    ensures { OnOk result (text.new.items ≡ text.old.items ++ cause_text heading details.now) }
+{
+    text.extend_from_slice(heading.name())?;
+    if details.is_empty() {
+        return Ok(());
+    }
+    text.extend_from_slice(b" ")?;
+    text.extend_from_slice(details)
+}
+
+/// The cause text of a refusal: its name and its details.
+pub fn cause_text(alloc: Global, heading: Heading, details: &[u8]) -> Result<Vec<u8>, AllocError>
+    ensures { IfOk result (λ text. text.items ≡ cause_text heading details.now) }
+{
+    let mut text = Vec::new(alloc);
+    push_cause(&mut text, heading, details)?;
+    Ok(text)
+}
+
+/// The first line of a refusal, without its end.
+pub fn refusal_text(
+    alloc: Global,
+    place: Place,
+    heading: Heading,
+    details: &[u8],
+) -> Result<Vec<u8>, AllocError>
+    ensures { IfOk result (λ text. text.items ≡ refusal_text place heading details.now) }
+{
+    let mut text = Vec::from_slice(alloc, b"refused ")?;
+    push_place(&mut text, place)?;
+    text.extend_from_slice(b" ")?;
+    push_number(&mut text, u64::from(heading.number()))?;
+    text.extend_from_slice(b" ")?;
+    push_cause(&mut text, heading, details)?;
+    Ok(text)
+}

@@ -1,0 +1,218 @@
+//! The text of a term.
+ghost use Rattle.std.specs.Prelude.{◌≡◌, ◌++◌, OnOk};
+ghost use Rattle.lego_print.specs.Texts.{term_text};
+ghost use Rattle.lego_print.specs.private.Counted.{AreCounted};
+ghost use Rattle.lego_print.specs.private.Numbered.{scope_of};
+ghost use Rattle.lego_print.specs.private.Parts.{infix_text, binder_text, product_text, sigma_text};
+
+use crate::entries::Entries;
+use crate::page::{Page, Printer};
+use crate::pieces::{name_text, push_argument_sign, push_if, push_level, sign};
+use crate::used::uses_variable;
+use lego_term::{Binder, Mark, Node, Term};
+use std::alloc::AllocError;
+
+/// What stands between two parts, and the ranks that these want.
+#[derive(Clone, Copy)]
+pub(crate) struct Infix {
+    pub left: u32,
+    pub symbol: &'static [u8],
+    pub right: u32,
+}
+
+/// What stands around the name of a binder and the part behind it.
+#[derive(Clone, Copy)]
+pub(crate) struct Brackets {
+    pub open: &'static [u8],
+    pub sign: &'static [u8],
+    pub close: &'static [u8],
+}
+
+/// Adds a term, in parentheses where its rank is below the wanted one.
+#[cycle(terms)]
+pub(crate) fn push_term<E: Entries>(
+    printer: &Printer<'_, E>,
+    page: &mut Page,
+    wanted: u32,
+    term: &Term,
+) -> Result<(), AllocError>
+    requires { AreCounted printer.now.names.now (E.called printer.now.entries.now) (E.in_scope printer.now.entries.now) page.old.locals }
+    ensures text { OnOk result (page.new.text.items ≡ page.old.text.items ++ term_text printer.now.levels (scope_of printer.now.names.now (E.called printer.now.entries.now) (E.in_scope printer.now.entries.now) page.old.locals) wanted term.now) }
+    ensures locals { OnOk result (page.new.locals ≡ page.old.locals) }
+{
+    match term.view() {
+        Node::Var(index) => page.text.extend_from_slice(page.locals.text(index)),
+        Node::Const(number) => match printer.entries.name_of(number) {
+            Some(name) => page.text.extend_from_slice(name_text(printer.names, name)),
+            None => Ok(()),
+        },
+        Node::Prop => page.text.extend_from_slice(b"Prop"),
+        Node::Univ(level) => push_level(&mut page.text, printer.levels, level),
+        Node::Pi(x, a, b) => {
+            push_if(&mut page.text, wanted > 0, b"(")?;
+            push_product(printer, page, x, a, b)?;
+            push_if(&mut page.text, wanted > 0, b")")
+        }
+        Node::Lam(x, a, m) => {
+            let brackets = Brackets {
+                open: b"[",
+                sign: sign(x.mark),
+                close: b"]",
+            };
+            push_if(&mut page.text, wanted > 0, b"(")?;
+            push_binder(printer, page, brackets, x.name, a, m)?;
+            push_if(&mut page.text, wanted > 0, b")")
+        }
+        Node::App(mark, m, n) => {
+            push_if(&mut page.text, wanted > 2, b"(")?;
+            push_term(printer, page, 2, m)?;
+            push_argument_sign(&mut page.text, mark)?;
+            push_term(printer, page, 3, n)?;
+            push_if(&mut page.text, wanted > 2, b")")
+        }
+        Node::Sigma(x, a, b) => {
+            let rank = if uses_variable(b, 0) { 0 } else { 1 };
+            push_if(&mut page.text, wanted > rank, b"(")?;
+            push_sigma(printer, page, x.name, a, b)?;
+            push_if(&mut page.text, wanted > rank, b")")
+        }
+        Node::Pair(x, a, b, m, n) => {
+            page.text.extend_from_slice(b"(")?;
+            push_term(printer, page, 0, m)?;
+            page.text.extend_from_slice(b",")?;
+            push_term(printer, page, 0, n)?;
+            page.text.extend_from_slice(b":")?;
+            push_sigma(printer, page, x.name, a, b)?;
+            page.text.extend_from_slice(b")")
+        }
+        Node::Fst(m) => {
+            push_term(printer, page, 3, m)?;
+            page.text.extend_from_slice(b".1")
+        }
+        Node::Snd(m) => {
+            push_term(printer, page, 3, m)?;
+            page.text.extend_from_slice(b".2")
+        }
+        Node::Local(x, m, n) => {
+            let brackets = Brackets {
+                open: b"[",
+                sign: b"=",
+                close: b"]",
+            };
+            push_if(&mut page.text, wanted > 0, b"(")?;
+            push_binder(printer, page, brackets, x.name, m, n)?;
+            push_if(&mut page.text, wanted > 0, b")")
+        }
+    }
+}
+
+/// Adds a product: an arrow where it is plain and its variable is not used.
+#[cycle(terms)]
+fn push_product<E: Entries>(
+    printer: &Printer<'_, E>,
+    page: &mut Page,
+    x: Binder,
+    a: &Term,
+    b: &Term,
+) -> Result<(), AllocError>
+    requires { AreCounted printer.now.names.now (E.called printer.now.entries.now) (E.in_scope printer.now.entries.now) page.old.locals }
+    ensures text { OnOk result (page.new.text.items ≡ page.old.text.items ++ product_text printer.now.levels (scope_of printer.now.names.now (E.called printer.now.entries.now) (E.in_scope printer.now.entries.now) page.old.locals) x a.now b.now) }
+    ensures locals { OnOk result (page.new.locals ≡ page.old.locals) }
+{
+    let is_plain = match x.mark {
+        Mark::Plain => true,
+        Mark::Implicit => false,
+    };
+    if is_plain && !uses_variable(b, 0) {
+        let arrow = Infix {
+            left: 1,
+            symbol: b"->",
+            right: 0,
+        };
+        push_infix(printer, page, arrow, a, b)
+    } else {
+        let brackets = Brackets {
+            open: b"{",
+            sign: sign(x.mark),
+            close: b"}",
+        };
+        push_binder(printer, page, brackets, x.name, a, b)
+    }
+}
+
+/// Adds a Sigma type: with `#` where its variable is not used.
+#[cycle(terms)]
+fn push_sigma<E: Entries>(
+    printer: &Printer<'_, E>,
+    page: &mut Page,
+    name: Option<u32>,
+    a: &Term,
+    b: &Term,
+) -> Result<(), AllocError>
+    requires { AreCounted printer.now.names.now (E.called printer.now.entries.now) (E.in_scope printer.now.entries.now) page.old.locals }
+    ensures text { OnOk result (page.new.text.items ≡ page.old.text.items ++ sigma_text printer.now.levels (scope_of printer.now.names.now (E.called printer.now.entries.now) (E.in_scope printer.now.entries.now) page.old.locals) name a.now b.now) }
+    ensures locals { OnOk result (page.new.locals ≡ page.old.locals) }
+{
+    if uses_variable(b, 0) {
+        let brackets = Brackets {
+            open: b"<",
+            sign: b":",
+            close: b">",
+        };
+        push_binder(printer, page, brackets, name, a, b)
+    } else {
+        let sum = Infix {
+            left: 2,
+            symbol: b"#",
+            right: 1,
+        };
+        push_infix(printer, page, sum, a, b)
+    }
+}
+
+/// Adds two parts with a symbol between, the second under a binder without a printed name.
+#[cycle(terms)]
+fn push_infix<E: Entries>(
+    printer: &Printer<'_, E>,
+    page: &mut Page,
+    symbol: Infix,
+    a: &Term,
+    b: &Term,
+) -> Result<(), AllocError>
+    requires { AreCounted printer.now.names.now (E.called printer.now.entries.now) (E.in_scope printer.now.entries.now) page.old.locals }
+    ensures text { OnOk result (page.new.text.items ≡ page.old.text.items ++ infix_text printer.now.levels (scope_of printer.now.names.now (E.called printer.now.entries.now) (E.in_scope printer.now.entries.now) page.old.locals) symbol a.now b.now) }
+    ensures locals { OnOk result (page.new.locals ≡ page.old.locals) }
+{
+    push_term(printer, page, symbol.left, a)?;
+    page.text.extend_from_slice(symbol.symbol)?;
+    page.locals.enter_unnamed()?;
+    push_term(printer, page, symbol.right, b)?;
+    page.locals.leave();
+    Ok(())
+}
+
+/// Adds a binder with the part behind its name, and its body.
+#[cycle(terms)]
+fn push_binder<E: Entries>(
+    printer: &Printer<'_, E>,
+    page: &mut Page,
+    brackets: Brackets,
+    name: Option<u32>,
+    a: &Term,
+    b: &Term,
+) -> Result<(), AllocError>
+    requires { AreCounted printer.now.names.now (E.called printer.now.entries.now) (E.in_scope printer.now.entries.now) page.old.locals }
+    ensures text { OnOk result (page.new.text.items ≡ page.old.text.items ++ binder_text printer.now.levels (scope_of printer.now.names.now (E.called printer.now.entries.now) (E.in_scope printer.now.entries.now) page.old.locals) brackets name a.now b.now) }
+    ensures locals { OnOk result (page.new.locals ≡ page.old.locals) }
+{
+    let frame = printer.frame(page, name)?;
+    page.text.extend_from_slice(brackets.open)?;
+    page.text.extend_from_slice(frame.text.as_slice())?;
+    page.text.extend_from_slice(brackets.sign)?;
+    push_term(printer, page, 0, a)?;
+    page.text.extend_from_slice(brackets.close)?;
+    let outer = page.enter(frame)?;
+    push_term(printer, page, 0, b)?;
+    page.leave(name, outer);
+    Ok(())
+}

@@ -1,0 +1,9 @@
+//! Tests of the printer, over its public calls alone.
+#![tactic(auto)]
+
+#[cfg(test)]
+mod few;
+#[cfg(test)]
+mod refusals;
+#[cfg(test)]
+mod terms;
