@@ -20,11 +20,11 @@ use Rattle.lego_kernel.specs.declared.fault.Counted.TheVariants.{Entries}
 use Rattle.lego_kernel.specs.declared.fault.TypeFault.{TypeFault}
 use Rattle.lego_kernel.specs.declared.fault.TypeFault.TheVariants as kernel
 use Rattle.lego_kernel.proofs.AssumeLemmas.{simple_is_type}
-use Rattle.lego_session.specs.private.Binding.{IsFirstUsed, Assumes, AssumeFails, IsFront, IsReadRefusal, IsCauseOf, BindFails, BindAllFails}
-use Rattle.lego_session.specs.Reading.{is_simple, is_simple_assumption, arrow_binder, Visits, IsTypeRefused}
-use Rattle.lego_session.specs.Reading as type
-use Rattle.lego_session.specs.private.Reading.{IsTooLargeArrow, IsNotRead}
-use Rattle.lego_session.specs.commands.Bindings.{AreNew, IsRead, Binds, BindsAll, IsBindingRefused, AreRefused, HasPlaces}
+use Rattle.lego_session.specs.private.Binding.{HasPlaces, IsFirstUsed, Assumes, AssumeFails, IsFront, IsReadRefusal, IsCauseOf, BindFails, BindAllFails}
+use Rattle.lego_session.specs.Reading.{is_simple, is_simple_assumption, IsTypeRefused}
+use Rattle.lego_session.specs.private.Reading.{arrow_binder, Visits, IsTooLargeArrow, IsNotRead}
+use Rattle.lego_session.proofs.ExplicitLemmas.{unknown_refused, too_large_refused}
+use Rattle.lego_session.specs.commands.Bindings.{AreNew, IsRead, Binds, BindsAll, IsBindingRefused, AreRefused}
 use Rattle.lego_session.specs.commands.Bindings as steps
 use Rattle.lego_session.specs.declared.reading.ReadFault.{ReadFault}
 use Rattle.lego_session.specs.declared.reading.ReadFault.TheVariants as read
@@ -50,7 +50,7 @@ arrow_too_large : {es : List Item} {place : Place} (w part : Written) (t : Core)
 arrow_too_large {es} {place} w part t i j visits large small deep =
     let there : Visits es w (Bind Kind.Pi Plain [] large.domain large.body) = subst (Visits es w) large.is visits in
     let passes : Passes (Pi arrow_binder large.c large.d) = subst Passes large.core large.passes in
-    let whole : IsTypeRefused es place w place (cause.TooLarge (size (Pi arrow_binder large.c large.d)) (depth (Pi arrow_binder large.c large.d))) = type.IsTypeRefused.too_large there large.reads_domain large.small_domain large.reads_body large.small_body passes in
+    let whole : IsTypeRefused es place w place (cause.TooLarge (size (Pi arrow_binder large.c large.d)) (depth (Pi arrow_binder large.c large.d))) = too_large_refused there large.reads_domain large.small_domain large.reads_body large.small_body passes in
     subst (λ n. IsTypeRefused es place w place (cause.TooLarge n j)) (sym (small ∙ ap size large.core))
     (subst (λ n. IsTypeRefused es place w place (cause.TooLarge (size (Pi arrow_binder large.c large.d)) n)) (sym (deep ∙ ap depth large.core)) whole)
 
@@ -66,7 +66,7 @@ module _ (es : List Item) (b : WrittenBinding) where
       → IsNotRead es w fault → IsReadRefusal b.place fault p c → BindFails es b p c
   not_read_fails w read.NotBuilt p c new says h r = absurd r
   not_read_fails w (read.Unknown at n) p c new says h r =
-      inr (subst (λ x. IsBindingRefused es b p x) (sym r.1) (subst (λ q. IsBindingRefused es b q (cause.UnknownName n)) (sym r.0) (steps.IsBindingRefused.unread new says (type.IsTypeRefused.unknown h.0 h.1))))
+      inr (subst (λ x. IsBindingRefused es b p x) (sym r.1) (subst (λ q. IsBindingRefused es b q (cause.UnknownName n)) (sym r.0) (steps.IsBindingRefused.unread new says (unknown_refused h.0 h.1))))
   not_read_fails w (read.TooLarge i j) p c new says h r =
       inr (subst (λ x. IsBindingRefused es b p x) (sym r.1) (subst (λ q. IsBindingRefused es b q (cause.TooLarge i j)) (sym r.0) (steps.IsBindingRefused.unread new says (arrow_too_large w h.0 h.1 i j h.2 h.3 h.4 h.5))))
   not_read_fails w read.Memory p c new says h r = inl r.1

@@ -24,6 +24,10 @@ use Rattle.lego_session.specs.Reading.{is_built}
 use Rattle.lego_session.specs.private.Unread.{IsUnreadBy, HasItsToken, IsUnexpectedToken, IsNotParsed}
 use Rattle.lego_session.specs.declared.refusal.Cause.{Cause}
 use Rattle.lego_session.proofs.TokenLemmas.{tokens_apart}
+use Rattle.lego_session.proofs.WrittenFormLemmas.{few_names, small_numerals}
+use Rattle.std.specs.Prelude.{All}
+use Rattle.lego_grammar.specs.WrittenForm.{IsSmall, count_names, max_written_names, IsWrittenForm}
+use Rattle.lego_grammar.specs.declared.command.Command.{Command}
 use Rattle.std.proofs.lemmas.Option.{same_Some}
 
 -- the tokens of the code, as the grammar sees them
@@ -109,6 +113,16 @@ numbered_command held names place bytes tokens o lexed h same = record {
   command = is_command names place bytes tokens o lexed h;
   numbers = same ∙ ap (names_behind held) (sym (same_items bytes tokens));
 }
+
+-- the command that the parser answers has a written form
+pub written_form : (place : Place) (bytes : List ℕ) (tokens : List Token) (command : Command)
+    → HasTokens (record { place = place; bytes = bytes }) (map (placed bytes) tokens)
+    → (All (λ (t : Item). IsSmall t.lexeme) (map (item_of bytes) tokens) → count_names (map (item_of bytes) tokens) ≤ max_written_names → IsWrittenForm command)
+    → IsWrittenForm command
+written_form place bytes tokens command lexed form =
+    let items = same_items bytes tokens in
+    form (subst (λ xs. All (λ (t : Item). IsSmall t.lexeme) xs) items (small_numerals (map (placed bytes) tokens) lexed.within))
+    (subst (λ xs. count_names xs ≤ max_written_names) items (few_names lexed.lexed lexed.short))
 
 -- why the tokens are no command, as it is answered
 pub not_parsed_unread : (held left : Names) (place : Place) (bytes : List ℕ) (tokens : List Token) (fault : ParseFault) (p : Place) (cause : Cause)

@@ -1,18 +1,23 @@
 -- The command of an entry declares it.
-use Rattle.std.proofs.Common.{◌≡◌, ℕ, List, [], ◌∷◌, ◌++◌, map, length, Some, refl, sym, ap, ◌∙◌, subst, append_assoc}
+use Rattle.std.proofs.Common.{◌≡◌, ℕ, List, [], ◌∷◌, ◌++◌, map, length, Some, None, refl, sym, ap, ◌∙◌, subst, append_assoc}
+use Rattle.std.proofs.lemmas.List.{length-map}
 use Rattle.lego_base.specs.declared.place.Place.{Place}
 use Rattle.lego_term.specs.declared.binder.Mark.TheVariants.{Plain}
 use Rattle.lego_lexer.specs.Bytes.{Gap}
-use Rattle.lego_lexer.specs.Commands.{Unbroken}
+use Rattle.lego_lexer.specs.Commands.{CommandText, Unbroken}
 use Rattle.lego_lexer.specs.Tokens.{Name, OfSymbol, Point, Placed, Reads as Lexes, start}
 use Rattle.lego_lexer.specs.declared.token.Symbol.TheVariants.{OpenSquare, CloseSquare, Colon, Semicolon}
 use Rattle.lego_lexer.proofs.LexLemmas.{reads_join}
 use Rattle.lego_lexer.proofs.TokenLemmas.{symbol_longest}
 use Rattle.lego_grammar.specs.Grammar.{Names, Nested, Item as Token, Term, item, symbol, token, NameList, ReadsBinding, ReadsBindings, ReadsAct, ReadsCommand}
-use Rattle.lego_grammar.specs.Written.{Assumed, WrittenAct}
+use Rattle.lego_grammar.specs.Denotes.{grammar_tokens, IsWrittenAs, Declaration, declaration_of, declared_entry, ReadsDeclarations}
+use Rattle.lego_grammar.specs.Reading.{ReadsExplicitly}
+use Rattle.lego_grammar.specs.Scopes.{entry_named, no_variables}
+use Rattle.lego_grammar.specs.Written.{Written, Assumed, WrittenAct, WrittenCommand}
+use Rattle.lego_kernel.specs.Entries.{laws_entry, laws_entries}
+use Rattle.lego_kernel.proofs.EntryLemmas.{laws-push}
 use Rattle.lego_kernel.specs.declared.entry.Entry.{Entry as Item}
-use Rattle.lego_session.specs.Answers.{grammar_tokens}
-use Rattle.lego_session.specs.Denotes.{Declares}
+use Rattle.lego_laws.specs.Entries.{Entry}
 use Rattle.lego_session.specs.Names.{IsHeldName}
 use Rattle.lego_session.specs.private.Printable.{IsPlain}
 use Rattle.lego_session.proofs.DenotesTexts.{IsQuiet, name_text_is, name_begins, begins_there, byte_unbroken}
@@ -33,6 +38,16 @@ pub body_unbroken : (name ty : List ℕ) → IsQuiet name → IsQuiet ty → Unb
 body_unbroken name ty p q =
     byte_unbroken 91 (name ++ 58 ∷ (ty ++ 93 ∷ [])) refl refl
     (p.unbroken (58 ∷ (ty ++ 93 ∷ [])) (byte_unbroken 58 (ty ++ 93 ∷ []) refl refl (q.unbroken (93 ∷ []) (byte_unbroken 93 [] refl refl Unbroken.none))))
+
+-- an assumption of one name
+abbrev pub assumes : ℕ → Written → Declaration
+assumes n w = record { name = n; mark = Plain; ty = w; body = None }
+
+-- the bytes are a command that assumes the name, of this written type
+pub record IsWritten (names : Names) (text : CommandText) (n : ℕ) (w : Written) : Type 0 where
+  pub command : WrittenCommand
+  pub written : IsWrittenAs names text command
+  pub is : declaration_of command.act ≡ Some (assumes n w)
 
 -- the points at which the parts of an entry's command stand
 abbrev behind_open : Place → Point
@@ -86,14 +101,14 @@ module _ (names : Names) (before : List Item) (place : Place) (n : ℕ) (h : IsH
       ap (λ (xs : List Token). record { lexeme = OfSymbol OpenSquare; place = place } ∷ record { lexeme = Name h.text; place = (behind_open place).place }
       ∷ record { lexeme = OfSymbol Colon; place = (behind_name place h.text).place } ∷ xs) tail
 
-  pub entry_declared : e.number ≡ length before → IsPlain e → e.name ≡ Some n
-      → Declares names before (record { place = place; bytes = body_of h.text text ++ 59 ∷ [] }) e
-  entry_declared number plain is_named = record {
-    order = record {
+  -- the command's bytes are an assumption of the name
+  pub entry_written : IsWritten names (record { place = place; bytes = body_of h.text text ++ 59 ∷ [] }) n r.written
+  entry_written = record {
+    command = record {
       place = place;
       act = WrittenAct.Bindings (record { place = place; places = (behind_open place).place ∷ []; names = n ∷ []; kind = Assumed Plain r.written } ∷ []);
     };
-    reads = record {
+    written = record {
       tokens = the_tokens;
       lexed = record {
         end = after (after r.end (93 ∷ [])) (59 ∷ []);
@@ -108,13 +123,21 @@ module _ (names : Names) (before : List Item) (place : Place) (n : ℕ) (h : IsH
             (ReadsBinding.assume place (behind_name place h.text).place r.end.place (NameList.one h.held) r.parsed)));
       };
     };
-    binding = record { place = place; places = (behind_open place).place ∷ []; names = n ∷ []; kind = Assumed Plain r.written };
-    binds = refl;
-    name = n;
-    names_it = refl;
-    written = r.written;
-    says = refl;
-    ty = e.ty;
-    type = r.type;
-    is = λ i. record { number = number i; name = is_named i; mark = plain.0 i; ty = e.ty };
+    is = refl;
   }
+
+-- behind the entries before it an assumption of a new name is read as its entry
+module _ (before : List Item) (n : ℕ) (w : Written) (e : Item) where
+  is_declared : e.number ≡ length before → IsPlain e → e.name ≡ Some n → laws_entry e ≡ declared_entry (length (laws_entries before)) (assumes n w) e.ty None
+  is_declared number plain name =
+      let place : e.number ≡ length (laws_entries before) = number ∙ sym (length-map before laws_entry) in
+      λ i. record { number = place i; name = name i; mark = plain.0 i; ty = e.ty; body = None; hypotheses = 0; constraints = [] }
+
+  pub entry_read : {ds : List Declaration} {es : List Entry} → e.number ≡ length before → IsPlain e → e.name ≡ Some n
+      → entry_named (laws_entries before) n ≡ None → ReadsExplicitly (laws_entries before) no_variables [] w e.ty
+      → ReadsDeclarations (laws_entries (before ++ e ∷ [])) ds es → ReadsDeclarations (laws_entries before) (assumes n w ∷ ds) (laws_entry e ∷ es)
+  entry_read {ds} {es} number plain name new type rest =
+      let is = is_declared number plain name in
+      let behind = subst (λ (xs : List Entry). ReadsDeclarations xs ds es) (laws-push before e) rest in
+      subst (λ (x : Entry). ReadsDeclarations (laws_entries before) (assumes n w ∷ ds) (x ∷ es)) (sym is)
+      (ReadsDeclarations.more new type tt (subst (λ (x : Entry). ReadsDeclarations (laws_entries before ++ x ∷ []) ds es) is behind))

@@ -1,9 +1,12 @@
 -- The text of a development reads back as its entries.
 use Rattle.std.proofs.Common.{◌≡◌, ℕ, suc, List, [], ◌∷◌, ◌++◌, length, Some, refl, sym, ap, ◌∙◌, subst, arith, append_assoc, length-append}
-use Rattle.std.specs.Prelude.{All, Option}
+use Rattle.std.specs.Prelude.{All, Option, slice_get, None}
 use Rattle.lego_session.specs.Texts.{first_place}
 use Rattle.std.specs.List.{flat_map}
+use Rattle.std.proofs.lemmas.List.{append-nil}
 use Rattle.std.proofs.lemmas.List.Elements.{All-head, All-tail}
+use Rattle.std.proofs.lemmas.Option.{slice_get_within}
+use Rattle.lego_base.specs.Names.{AreDistinct}
 use Rattle.lego_base.specs.Place.{behind}
 use Rattle.lego_base.specs.declared.place.Place.{Place}
 use Rattle.lego_lexer.specs.Bytes.{Gap}
@@ -13,18 +16,22 @@ use Rattle.lego_lexer.specs.declared.token.Word.TheVariants as Word
 use Rattle.lego_lexer.specs.declared.token.Symbol.TheVariants.{Semicolon}
 use Rattle.lego_lexer.proofs.TokenLemmas.{name_longest, symbol_longest}
 use Rattle.lego_grammar.specs.Grammar.{Names, symbol, word, ReadsAct, ReadsCommand, LoneWord}
-use Rattle.lego_grammar.specs.Written.{WrittenAct}
+use Rattle.lego_grammar.specs.Denotes.{IsWrittenAs, AreWrittenAs, Declaration, AreDeclarations, ReadsDeclarations, Denotes}
+use Rattle.lego_grammar.specs.Scopes.{entry_named}
+use Rattle.lego_grammar.specs.Written.{WrittenAct, WrittenCommand}
 use Rattle.lego_kernel.specs.Contexts.{IsContext, AreSimple}
+use Rattle.lego_kernel.specs.Entries.{laws_entries}
 use Rattle.lego_kernel.specs.Simple.{IsSimple}
+use Rattle.lego_kernel.proofs.EntryLemmas.{satisfied}
 use Rattle.lego_kernel.proofs.PureLemmas.{holds_purely}
 use Rattle.lego_kernel.specs.declared.entry.Entry.{Entry as Item}
-use Rattle.lego_session.specs.Denotes.{ReadsAs, DeclareAll, Denotes}
 use Rattle.lego_session.specs.Headline.{Headline}
 use Rattle.lego_session.specs.Names.{IsHeldName, IsHeldWhere, AreKnown}
 use Rattle.lego_session.specs.private.Printable.{IsPlain, IsPrintable, AreNamed}
 use Rattle.lego_session.specs.Texts.{entry_command, type_text, development_text}
-use Rattle.lego_session.proofs.DenotesEntries.{body_of, body_unbroken, entry_declared}
-use Rattle.lego_session.proofs.DenotesNames.{constant_is, printed_name}
+use Rattle.lego_session.proofs.DenotesEntries.{body_of, body_unbroken, assumes, entry_written, entry_read}
+use Rattle.lego_session.proofs.ExplicitLemmas.{not_named, reads_explicitly}
+use Rattle.lego_session.proofs.DenotesNames.{constant_is, printed_name, front_at, behind_front, is_named_else}
 use Rattle.lego_session.proofs.DenotesTexts.{begins_there, byte_unbroken, quiet_name, name_text_is}
 use Rattle.lego_session.proofs.DenotesTypes.{here, after, lex_one, stops_at, type_read, quiet_text}
 use Rattle.lego_session.proofs.TokenLemmas.{name_form}
@@ -37,7 +44,7 @@ explicit_unbroken =
     byte_unbroken 69 _ refl refl (byte_unbroken 120 _ refl refl (byte_unbroken 112 _ refl refl (byte_unbroken 108 _ refl refl
     (byte_unbroken 105 _ refl refl (byte_unbroken 99 _ refl refl (byte_unbroken 105 _ refl refl (byte_unbroken 116 _ refl refl Unbroken.none)))))))
 
-explicit_read : (names : Names) (place : Place) → ReadsAs names (record { place = place; bytes = explicit_bytes ++ 59 ∷ [] }) (record { place = place; act = WrittenAct.Explicit })
+explicit_read : (names : Names) (place : Place) → IsWrittenAs names (record { place = place; bytes = explicit_bytes ++ 59 ∷ [] }) (record { place = place; act = WrittenAct.Explicit })
 explicit_read names place =
     let next = after (start place) explicit_bytes in
     record {
@@ -66,11 +73,23 @@ line_is name ty more = simp append_assoc
 
 -- the bytes behind a `;` are cut into commands, which declare the entries
 record AreDeclared (names : Names) (es before entries : List Item) (p : Place) : Type 0 where
-  commands : List CommandText
-  cut : Cuts p (10 ∷ flat_map (entry_command names es) entries) commands Whole
-  declares : DeclareAll names before commands entries
+  texts : List CommandText
+  cut : Cuts p (10 ∷ flat_map (entry_command names es) entries) texts Whole
+  commands : List WrittenCommand
+  written : AreWrittenAs names texts commands
+  declarations : List Declaration
+  are : AreDeclarations commands declarations
+  reads : ReadsDeclarations (laws_entries before) declarations (laws_entries entries)
 
 module _ (names : Names) (es : List Item) (simple : AreSimple 0 es) (known : AreNamed names es) (printable : IsPrintable es) where
+  -- the name of an entry is new behind those before it
+  new_name : (e : Item) (before rest : List Item) → es ≡ before ++ e ∷ rest → (n : ℕ) → e.name ≡ Some n → entry_named (laws_entries before) n ≡ None
+  new_name e before rest split n name = not_named n before (λ k a at. is_named_else n a (λ same.
+      let there = ap (λ (xs : List Item). slice_get xs k) split ∙ front_at before (e ∷ rest) k a at in
+      let here = ap (λ (xs : List Item). slice_get xs (length before)) split ∙ behind_front before e rest in
+      let places : k ≡ length before = printable.apart k (length before) a e there here (same ∙ sym name) in
+      absurd (omega (arith, slice_get_within before k a at, places))))
+
   one_more : (e : Item) (before rest : List Item) → es ≡ before ++ e ∷ rest → e.number ≡ length before
       → IsSimple (length before) e.ty → IsPlain e → (n : ℕ) × (e.name ≡ Some n) × IsHeldName names n → (p : Place)
       → ((q : Place) → AreDeclared names es (before ++ e ∷ []) rest q) → AreDeclared names es before (e ∷ rest) p
@@ -89,16 +108,30 @@ module _ (names : Names) (es : List Item) (simple : AreSimple 0 es) (known : Are
       ap (λ (xs : List ℕ). 10 ∷ xs) (sym (line_is h.text text more)
       ∙ ap (λ (x : List ℕ). (((91 ∷ x) ++ 58 ∷ []) ++ text) ++ 93 ∷ 59 ∷ 10 ∷ [] ++ more) (sym (printed_name names e name.0 h name.1))) in
       let r = (type_read names es before constants e.ty type plain.1).0 1 (after (after (after (start q) (91 ∷ [])) h.text) (58 ∷ [])) (93 ∷ 59 ∷ []) (stops_at 93 (59 ∷ []) refl) in
+      let one = entry_written names before q name.0 h text e r in
       record {
-        commands = record { place = q; bytes = body ++ 59 ∷ [] } ∷ tail.commands;
-        cut = subst (λ (xs : List ℕ). Cuts p xs (record { place = q; bytes = body ++ 59 ∷ [] } ∷ tail.commands) Whole) line
+        texts = record { place = q; bytes = body ++ 59 ∷ [] } ∷ tail.texts;
+        cut = subst (λ (xs : List ℕ). Cuts p xs (record { place = q; bytes = body ++ 59 ∷ [] } ∷ tail.texts) Whole) line
             (Cuts.command (Begins.command newline unbroken begins) tail.cut);
-        declares = DeclareAll.more (entry_declared names before q name.0 h text e r number plain name.1) tail.declares;
+        commands = one.command ∷ tail.commands;
+        written = AreWrittenAs.more one.written tail.written;
+        declarations = assumes name.0 r.written ∷ tail.declarations;
+        are = AreDeclarations.more one.is tail.are;
+        reads = entry_read before name.0 r.written e number plain name.1 (new_name e before rest split name.0 name.1)
+            (reads_explicitly r.type [] (λ m. refl)) tail.reads;
       }
 
   all_declared : (entries before : List Item) → es ≡ before ++ entries → AreSimple (length before) entries → AreNamed names entries → All IsPlain entries
       → (p : Place) → AreDeclared names es before entries p
-  all_declared [] before split numbers named plain p = record { commands = []; cut = Cuts.whole (Begins.blank newline); declares = DeclareAll.none }
+  all_declared [] before split numbers named plain p = record {
+    texts = [];
+    cut = Cuts.whole (Begins.blank newline);
+    commands = [];
+    written = AreWrittenAs.none;
+    declarations = [];
+    are = AreDeclarations.none;
+    reads = ReadsDeclarations.none;
+  }
   all_declared (e ∷ rest) before split numbers named plain p =
       let longer : suc (length before) ≡ length (before ++ e ∷ []) = omega (arith, length-append before (e ∷ [])) in
       let parts : es ≡ (before ++ e ∷ []) ++ rest = split ∙ sym (append_assoc before (e ∷ []) rest) in
@@ -109,18 +142,26 @@ module _ (names : Names) (es : List Item) (simple : AreSimple 0 es) (known : Are
       (All-tail (λ (x : Item). (n : ℕ) × (x.name ≡ Some n) × IsHeldName names n) e rest named) (All-tail IsPlain e rest plain) q)
 
 -- what is printed denotes the entries, wherever it begins
-pub development_denotes : (names : Names) (es : List Item) (place : Place) → AreNamed names es → IsContext es → IsPrintable es
-    → Denotes names place (development_text names es) es
+development_denotes : (names : Names) (es : List Item) (place : Place) → AreNamed names es → IsContext es → IsPrintable es
+    → Denotes names place (development_text names es) [] (laws_entries es)
 development_denotes names es place known context printable =
     let d = all_declared names es context.simple known printable es [] refl context.simple known printable.plain (behind place (explicit_bytes ++ 59 ∷ [])) in
     record {
-      first = record { place = place; bytes = explicit_bytes ++ 59 ∷ [] };
-      commands = d.commands;
-      cut = Cuts.command (Begins.command Gap.none explicit_unbroken (begins_there 69 _ refl refl)) d.cut;
-      order = record { place = place; act = WrittenAct.Explicit };
-      explicit = explicit_read names place;
-      is_explicit = refl;
-      declares = d.declares;
+      declarations = d.declarations;
+      declares = record {
+        first = record { place = place; act = WrittenAct.Explicit };
+        commands = d.commands;
+        script = record {
+          texts = record { place = place; bytes = explicit_bytes ++ 59 ∷ [] } ∷ d.texts;
+          cut = Cuts.command (Begins.command Gap.none explicit_unbroken (begins_there 69 _ refl refl)) d.cut;
+          written = AreWrittenAs.more (explicit_read names place) d.written;
+        };
+        is_explicit = refl;
+        declarations = d.are;
+      };
+      entries = laws_entries es;
+      reads = d.reads;
+      same = refl;
     }
 
 -- the entries have names, which are held
@@ -129,9 +170,18 @@ named names es known printable i d l =
     let name = (printable.plain i d l).2 in
     (name.0, name.1, subst (λ (n : Option ℕ). IsHeldWhere names n) name.1 (known i d l).0)
 
--- where the names of printable entries are held, their development reads back as them
-pub is_headline : (names : Names) (es : List Item) → AreKnown names es → IsContext es → IsPrintable es → Headline names es
-is_headline names es known valid printable = record {
-  denotes = development_denotes names es first_place (named names es known printable) valid printable;
-  pure = λ v. holds_purely v es valid;
-}
+-- where the names of printable entries are held, their development reads back as them; no entry has a level variable, so all are 0
+pub is_headline : (names : Names) (es : List Item) → AreDistinct names → AreKnown names es → IsContext es → IsPrintable es → Headline names es
+is_headline names es distinct known valid printable =
+    let text = development_text names es in
+    let denotes = development_denotes names es first_place (named names es known printable) valid printable in
+    record {
+      levels = [];
+      least = record { satisfies = satisfied [] es; least = λ w s u. omega arith };
+      develops = record {
+        more = [];
+        distinct = subst AreDistinct (sym (append-nil names)) distinct;
+        denotes = subst (λ (ns : Names). Denotes ns first_place text [] (laws_entries es)) (sym (append-nil names)) denotes;
+        pure = holds_purely [] es valid;
+      };
+    }

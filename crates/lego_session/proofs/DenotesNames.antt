@@ -28,6 +28,11 @@ front_at [] ys k x h = absurd (cc)
 front_at (y ∷ xs) ys zero x h = h
 front_at (y ∷ xs) ys (suc k) x h = front_at xs ys k x h
 
+-- what stands behind the first ones
+pub behind_front : {X : Type 0} (xs : List X) (x : X) (ys : List X) → slice_get (xs ++ x ∷ ys) (length xs) ≡ Some x
+behind_front [] x ys = refl
+behind_front (y ∷ xs) x ys = behind_front xs x ys
+
 pub eq_self : (n : ℕ) → nat_eq n n ≡ true
 eq_self n = grind (arith, nat_tests)
 

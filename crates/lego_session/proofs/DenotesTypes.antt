@@ -15,9 +15,9 @@ use Rattle.lego_grammar.specs.Written.{Written, Named, WrittenProp, Bind}
 use Rattle.lego_grammar.specs.declared.surface.Kind.TheVariants as Kind
 use Rattle.lego_kernel.specs.Simple.{IsSimple}
 use Rattle.lego_kernel.specs.declared.entry.Entry.{Entry as Item}
-use Rattle.lego_session.specs.Answers.{grammar_tokens}
+use Rattle.lego_grammar.specs.Denotes.{grammar_tokens}
 use Rattle.lego_session.specs.private.Printable.{HasArrows}
-use Rattle.lego_session.specs.Reading.{ReadsType, arrow_binder}
+use Rattle.lego_session.specs.private.Reading.{ReadsSimply, arrow_binder}
 use Rattle.lego_session.specs.Texts.{constant_text, type_text}
 use Rattle.lego_session.proofs.DenotesNames.{ConstantIs}
 use Rattle.lego_session.proofs.DenotesTexts.{IsQuiet, IsNameText, name_text_is, name_begins, begins_there, arrow_assoc, quiet_name, quiet_type}
@@ -60,7 +60,7 @@ pub record IsTypeRead (names : Names) (before : List Item) (d : ℕ) (form : For
   pub lexed : Lexes at (text ++ rest) tokens end rest
   pub same : map item nested ≡ grammar_tokens tokens
   pub parsed : Parse names d form nested written
-  pub type : ReadsType before written ty
+  pub type : ReadsSimply before written ty
 
 module _ (names : Names) (before : List Item) (d : ℕ) (at : Point) where
   name_read : (es : List Item) (k : ℕ) (rest : List ℕ) → ConstantIs names es before k → Stops goes_on_in_name rest
@@ -75,7 +75,7 @@ module _ (names : Names) (before : List Item) (d : ℕ) (at : Point) where
         lexed = lex_one c.text rest (name_begins c.text rest n) (name_lexeme c.text rest (Name c.text) n stops c.is_name) Lexes.none;
         same = refl;
         parsed = Parse.name at.place c.held;
-        type = subst (λ (i : ℕ). ReadsType before (Named at.place c.name) (Const i)) c.number (ReadsType.name k c.position c.there);
+        type = subst (λ (i : ℕ). ReadsSimply before (Named at.place c.name) (Const i)) c.number (ReadsSimply.name k c.position c.there);
       })
 
   prop_read : (rest : List ℕ) → Stops goes_on_in_name rest → IsTypeRead names before d Atom at (80 ∷ 114 ∷ 111 ∷ 112 ∷ []) rest Prop
@@ -87,7 +87,7 @@ module _ (names : Names) (before : List Item) (d : ℕ) (at : Point) where
     lexed = lex_one (80 ∷ 114 ∷ 111 ∷ 112 ∷ []) rest (begins_there 80 _ refl refl) (name_longest 80 (114 ∷ 111 ∷ 112 ∷ []) rest (OfWord Word.Prop) refl stops refl) Lexes.none;
     same = refl;
     parsed = Parse.prop at.place;
-    type = ReadsType.prop;
+    type = ReadsSimply.prop;
   }
 
   as_term : {text rest : List ℕ} {ty : Core} → IsTypeRead names before d Atom at text rest ty → IsTypeRead names before d Term at text rest ty
@@ -115,7 +115,7 @@ module _ (names : Names) (before : List Item) (d : ℕ) (at : Point) where
     same = same_join A.nested (symbol d A.end.place Arrow ∷ B.nested) A.tokens (here A.end (45 ∷ 62 ∷ []) (OfSymbol Arrow) ∷ B.tokens) A.same
         (ap (λ (xs : List Token). record { lexeme = OfSymbol Arrow; place = A.end.place } ∷ xs) B.same);
     parsed = Parse.arrow A.end.place (Parse.sum_spine (Parse.spine_post (Parse.post_atom A.parsed))) B.parsed;
-    type = ReadsType.arrow A.type B.type;
+    type = ReadsSimply.arrow A.type B.type;
   }
 
   parens_read : (a rest : List ℕ) (ty : Core) → IsQuiet a → IsTypeRead names before (suc d) Term (after at (40 ∷ [])) a (41 ∷ rest) ty

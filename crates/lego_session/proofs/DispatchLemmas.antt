@@ -1,9 +1,10 @@
 -- A step from what the command of its form did.
-use Rattle.std.proofs.Common.{◌≡◌, ℕ, false, List, Result, Ok, Err, IfOk, IfErr, OnErr, refl, sym, ap, ap₂, subst, inl, inr, arith}
+use Rattle.std.proofs.Common.{◌≡◌, ℕ, true, false, List, Result, Ok, Err, IfOk, IfErr, OnErr, refl, sym, ap, ap₂, subst, inl, inr, arith}
 use Rattle.lego_base.specs.declared.place.Place.{Place}
 use Rattle.lego_grammar.specs.Grammar.{Names}
 use Rattle.lego_grammar.specs.Written.{WrittenAct, WrittenCommand}
 use Rattle.lego_grammar.specs.Written as written
+use Rattle.lego_session.specs.Reading.{is_built}
 use Rattle.lego_session.specs.Refusals.{Scope}
 use Rattle.lego_undo.specs.Histories.{held, old_states}
 use Rattle.lego_undo.specs.declared.change.Change.{Change}
@@ -54,13 +55,13 @@ module _ (names : Names) (limit : ℕ) (old new : Session) (o : WrittenCommand) 
       by_result (Err e) (inl m) = λ f. m.0
       by_result (Err e) (inr x) = λ f. absurd (feasible limit old o.place o.act x.0 e.place e.cause x.1 f)
 
-  pub stays_printable : IfOk r (λ a. Step names limit old o (record { refused = false; text = a.text }) new) → OnErr r (new ≡ old)
+  pub stays_printable : is_built o.act ≡ true → IfOk r (λ a. Step names limit old o (record { refused = false; text = a.text }) new) → OnErr r (new ≡ old)
       → IsPrintableSession old → IsPrintableSession new
-  stays_printable ok err p = by_result r ok err
+  stays_printable built ok err p = by_result r ok err
     where
       by_result : (r : Result Answer Refusal) → IfOk r (λ a. Step names limit old o (record { refused = false; text = a.text }) new) → OnErr r (new ≡ old)
           → IsPrintableSession new
-      by_result (Ok a) ok err = step_printable ok p
+      by_result (Ok a) ok err = step_printable ok built p
       by_result (Err e) ok err = subst IsPrintableSession (sym err) p
 
   module _ (act : WrittenAct) (is : o.act ≡ act) where

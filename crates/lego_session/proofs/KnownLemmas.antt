@@ -1,11 +1,17 @@
 -- The names of entries are held: a numbering that grows keeps them, and bindings add names that were read.
-use Rattle.std.proofs.Common.{◌≡◌, ℕ, ◌≤◌, length, Bool, true, false, if◌then◌else◌, ap₂, arith, append-nil, append_assoc, List, [], ◌∷◌, ◌++◌, map, Option, Some, None, Result, Ok, Err, IfOk, OnErr, refl, sym, ap, ◌∙◌, subst}
+use Rattle.std.proofs.Common.{◌≡◌, ℕ, ◌≤◌, length, Bool, true, false, ◌&&◌, if◌then◌else◌, ap₂, arith, append-nil, append_assoc, List, [], ◌∷◌, ◌++◌, map, Option, Some, None, Result, Ok, Err, IfOk, OnErr, refl, sym, ap, ◌∙◌, subst}
 use Rattle.std.specs.Prelude.{slice_get}
-use Rattle.std.specs.List.{AllByRecursion}
+use Rattle.std.specs.List.{list_all, AllByRecursion}
 use Rattle.std.proofs.lemmas.List.Elements.{All-nil, All-weaker, All-push}
 use Rattle.lego_base.specs.declared.place.Place.{Place}
 use Rattle.lego_term.specs.Trees.{Core, Var, Const, Prop, Univ, Pi, Lam, App, Sigma, Pair, Fst, Snd, Let}
-use Rattle.lego_term.specs.declared.binder.Mark.TheVariants.{Plain}
+use Rattle.lego_term.specs.declared.binder.Mark.{Mark}
+use Rattle.lego_term.specs.declared.binder.Mark.TheVariants.{Plain, Implicit}
+use Rattle.lego_laws.specs.Entries.{Entry}
+use Rattle.lego_grammar.specs.declared.surface.Kind.{Kind}
+use Rattle.lego_grammar.specs.Reading.{binder, bind_core, ReadsExplicitly}
+use Rattle.lego_grammar.specs.Scopes.{Scope, no_variables}
+use Rattle.lego_lexer.proofs.TokenLemmas.{and_true}
 use Rattle.lego_lexer.specs.Commands.{CommandText}
 use Rattle.lego_lexer.specs.Tokens.{Lexeme, Name, Number, OfWord, OfSymbol, Placed, Tokens}
 use Rattle.lego_grammar.specs.Grammar.{Names, Nested, Item as Token, item, Parses, NameList, ReadsBinding, ReadsBindings, ReadsAct, ReadsCommand, TermWord, NumberWord, NameWord, LoneWord}
@@ -17,9 +23,10 @@ use Rattle.lego_parser.specs.Numbering.{names_with, names_behind, IsFront, max_n
 use Rattle.lego_session.specs.Answers.{grammar_tokens, Answers, IsUnread}
 use Rattle.lego_session.specs.declared.refusal.Cause.{Cause}
 use Rattle.lego_session.specs.Names.{IsHeldName, AreHeld, IsHeldWhere, AreBindersHeld, IsKnown, AreKnown, IsKnownSession}
-use Rattle.lego_session.specs.Reading.{ReadsType}
+use Rattle.lego_session.specs.Reading.{is_arrow, is_simple, is_simple_assumption, is_built}
+use Rattle.lego_session.proofs.PrintableLemmas.{named_binder, simple_type}
 use Rattle.lego_session.specs.Sessions.{Session, entries_of, empty_session}
-use Rattle.lego_session.specs.Step.{Step, Reply, bounds_of}
+use Rattle.lego_session.specs.Step.{Step, Reply, bindings_of}
 use Rattle.lego_session.specs.commands.Bindings.{assume_all, BindsAll, AreBoundHeld}
 use Rattle.lego_undo.specs.Histories.{Held}
 use Rattle.lego_session.proofs.DenotesNames.{front_at}
@@ -99,7 +106,7 @@ bindings_held (ReadsBindings.one h) all = (binding_held h all, tt)
 bindings_held (ReadsBindings.more {ts = ts} {us = us} h rest) all = (binding_held h (names_front ts us all), bindings_held rest (names_back ts us all))
 
 -- the names that a command binds
-act_held : {names : Names} {ts : List Nested} {act : WrittenAct} → ReadsAct names ts act → HaveTrueNames ts → AreBoundHeld names (bounds_of act)
+act_held : {names : Names} {ts : List Nested} {act : WrittenAct} → ReadsAct names ts act → HaveTrueNames ts → AreBoundHeld names (bindings_of act)
 act_held (ReadsAct.bindings h) all = bindings_held h all
 act_held (ReadsAct.show h) all = tt
 act_held (ReadsAct.with_term TermWord.refine h) all = tt
@@ -123,19 +130,39 @@ act_held (ReadsAct.alone LoneWord.ctxt) all = tt
 act_held (ReadsAct.alone LoneWord.explicit) all = tt
 act_held (ReadsAct.alone LoneWord.implicit) all = tt
 
-command_held : {names : Names} {ts : List Nested} {o : WrittenCommand} → ReadsCommand names ts o → HaveTrueNames ts → AreBoundHeld names (bounds_of o.act)
+command_held : {names : Names} {ts : List Nested} {o : WrittenCommand} → ReadsCommand names ts o → HaveTrueNames ts → AreBoundHeld names (bindings_of o.act)
 command_held (ReadsCommand.command {t = t} {ts = ts} p act) all = act_held act (names_front (t ∷ ts) _ all)
 
 -- each name that a command binds is held
 names_held : {names : Names} {place : Place} {bytes : List ℕ} {tokens : List Placed} {o : WrittenCommand}
-    → Parses names (grammar_tokens tokens) o → Tokens place bytes tokens → AreBoundHeld names (bounds_of o.act)
+    → Parses names (grammar_tokens tokens) o → Tokens place bytes tokens → AreBoundHeld names (bindings_of o.act)
 names_held {tokens = tokens} parses lexed = command_held parses.reads (nested_names parses.nested tokens parses.same (tokens_are_names lexed))
 
--- a type that is read has no name at its binders
-reads_held : {es : List Item} {w : Written} {t : Core} (names : Names) → ReadsType es w t → AreBindersHeld names t
-reads_held names ReadsType.prop = tt
-reads_held names (ReadsType.name i h k) = tt
-reads_held names (ReadsType.arrow a b) = (tt, reads_held names a, reads_held names b)
+arrow_held : (names : Names) (kind : Kind) (mark : Mark) (c d : Core) → is_arrow kind mark [] ≡ true → AreBindersHeld names c → AreBindersHeld names d
+    → AreBindersHeld names (bind_core kind (binder None mark) c d)
+arrow_held names Kind.Pi Plain c d h p q = (tt, p, q)
+arrow_held names Kind.Pi Implicit c d h p q = absurd (cc)
+arrow_held names Kind.Lambda mark c d h p q = absurd (cc)
+arrow_held names Kind.Sigma mark c d h p q = absurd (cc)
+
+-- a simple type that is read has no name at its binders
+reads_held : {es : List Entry} {scope : Scope} {w : Written} {t : Core} (names : Names) → ReadsExplicitly es no_variables scope w t → is_simple w ≡ true
+    → AreBindersHeld names t
+reads_held names (ReadsExplicitly.local h) simple = tt
+reads_held names (ReadsExplicitly.entry h k) simple = tt
+reads_held names ReadsExplicitly.prop simple = tt
+reads_held names (ReadsExplicitly.any_type h) simple = tt
+reads_held names ReadsExplicitly.type_at simple = tt
+reads_held names (ReadsExplicitly.nameless {kind = kind} {mark = mark} {s = s} {t = t} {a = a} {b = b} p q) simple =
+    let form = and_true (is_arrow kind mark []) (is_simple s && is_simple t) simple in
+    let parts = and_true (is_simple s) (is_simple t) form.1 in
+    arrow_held names kind mark a b form.0 (reads_held names p parts.0) (reads_held names q parts.1)
+reads_held names (ReadsExplicitly.named {kind = kind} {mark = mark} {n = n} {names = ns} {s = s} {t = t} p q) simple =
+    absurd (named_binder kind mark n ns (is_simple s && is_simple t) simple)
+reads_held names (ReadsExplicitly.local_definition p q) simple = absurd (cc)
+reads_held names (ReadsExplicitly.apply p q) simple = absurd (cc)
+reads_held names (ReadsExplicitly.pair p k q r) simple = absurd (cc)
+reads_held names (ReadsExplicitly.project p) simple = absurd (cc)
 
 assumed_known : (names : Names) (es : List Item) (ns : List ℕ) (ty : Core) → AreHeld names ns → AreBindersHeld names ty → AreKnown names es
     → AreKnown names (assume_all es Plain ns ty)
@@ -144,27 +171,32 @@ assumed_known names es (n ∷ ns) ty held binders known =
     assumed_known names (es ++ assumption es n Plain ty ∷ []) ns ty held.1 binders
     (All-push (IsKnown names) es (assumption es n Plain ty) known (held.0, binders))
 
-binds_known : (names : Names) {old new : List Item} {bs : List WrittenBinding} → BindsAll old bs new → AreBoundHeld names bs → AreKnown names old → AreKnown names new
-binds_known names BindsAll.none held known = known
-binds_known names (BindsAll.more {es = es} {b = b} h rest) held known =
-    binds_known names rest held.1
-    (subst (AreKnown names) (sym h.makes) (assumed_known names es b.names h.ty held.0 (reads_held names h.read.reads) known))
+binds_known : (names : Names) {old new : List Item} {bs : List WrittenBinding} → BindsAll old bs new → list_all (λ b. is_simple_assumption b.kind) bs ≡ true
+    → AreBoundHeld names bs → AreKnown names old → AreKnown names new
+binds_known names BindsAll.none built held known = known
+binds_known names (BindsAll.more {es = es} {b = b} {bs = bs} h rest) built held known =
+    let form = and_true (is_simple_assumption b.kind) (list_all (λ b. is_simple_assumption b.kind) bs) built in
+    binds_known names rest form.1 held.1
+    (subst (AreKnown names) (sym h.makes)
+    (assumed_known names es b.names h.ty held.0 (reads_held names h.read.reads.reads (simple_type h.read form.0)) known))
 
 -- the first entries
 known_front : (names : Names) (kept behind : List Item) → AreKnown names (kept ++ behind) → AreKnown names kept
 known_front names kept behind all = All-front (IsKnown names) kept behind all
 
 -- a session's step keeps the names of the entries held, where those of the command are
-pub step_keeps : {names : Names} {limit : ℕ} {old new : Session} {o : WrittenCommand} {a : Reply} → Step names limit old o a new
-    → IsKnownSession names old → AreBoundHeld names (bounds_of o.act) → IsKnownSession names new
-step_keeps {names} {limit} step known held =
-    step-throughout (AreKnown names) (known_front names) names limit (λ es es' binds before. binds_known names binds held before) step known
+pub step_keeps : {names : Names} {limit : ℕ} {old new : Session} {o : WrittenCommand} {a : Reply} → Step names limit old o a new → is_built o.act ≡ true
+    → IsKnownSession names old → AreBoundHeld names (bindings_of o.act) → IsKnownSession names new
+step_keeps {names} {limit} step built known held =
+    step-throughout (AreKnown names) (known_front names) names limit
+    (λ bs is es es' binds before. binds_known names binds (sym (ap is_built is) ∙ built) (subst (λ a. AreBoundHeld names (bindings_of a)) is held) before)
+    step known
 
 pub outcome_known : {X E : Type 0} (names : Names) (limit : ℕ) (old new : Session) (o : WrittenCommand) (outcome : Result X E) (answer : X → Reply)
-    → IfOk outcome (λ a. Step names limit old o (answer a) new) → OnErr outcome (new ≡ old)
-    → IsKnownSession names old → AreBoundHeld names (bounds_of o.act) → IsKnownSession names new
-outcome_known names limit old new o (Ok a) answer ok err known held = step_keeps ok known held
-outcome_known names limit old new o (Err e) answer ok err known held = subst (IsKnownSession names) (sym err) known
+    → is_built o.act ≡ true → IfOk outcome (λ a. Step names limit old o (answer a) new) → OnErr outcome (new ≡ old)
+    → IsKnownSession names old → AreBoundHeld names (bindings_of o.act) → IsKnownSession names new
+outcome_known names limit old new o (Ok a) answer built ok err known held = step_keeps ok built known held
+outcome_known names limit old new o (Err e) answer built ok err known held = subst (IsKnownSession names) (sym err) known
 
 -- the names behind tokens begin with those before them
 with_front : (names : Names) (l : Lexeme) → IsFront names (names_with names l)
@@ -215,7 +247,7 @@ pub answered_known : {limit : ℕ} {held names : Names} {old new : Session} {c :
     → length held ≤ max_names → Answers limit held old c a names new → IsKnownSession held old → IsKnownSession names new
 answered_known {held = held} {names = names} {old = old} few (Answers.step numbering command built h) known =
     let front = subst (IsFront held) (sym command.numbers) (behind_front held (grammar_tokens command.command.tokens)) in
-    step_keeps h (session_more held names old front known) (names_held command.command.parsed command.command.lexed.lexed)
+    step_keeps h built (session_more held names old front known) (names_held command.command.parsed command.command.lexed.lexed)
 answered_known {held = held} {names = names} {old = old} few (Answers.unread numbering h) known = session_more held names old (unread_front few h) known
 
 pub empty_known : (names : Names) → IsKnownSession names empty_session

@@ -10,10 +10,12 @@ pub mod KnownLemmas
 pub mod DenotesTexts
 pub mod DenotesNames
 pub mod DenotesTypes
+pub mod ExplicitLemmas
 pub mod DenotesEntries
 pub mod DenotesLemmas
 pub mod PrintableLemmas
 pub mod PlacesLemmas
+pub mod WrittenFormLemmas
 pub mod UnreadLemmas
 pub mod CommandLemmas
 pub mod AnswerLemmas

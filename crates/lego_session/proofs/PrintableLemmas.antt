@@ -1,31 +1,61 @@
 -- Entries stay printable where new names are assumed.
-use Rattle.std.proofs.Common.{◌≡◌, ℕ, zero, suc, ◌<◌, Bool, true, false, ◌||◌, nat_eq, nat_lt, List, [], ◌∷◌, ◌++◌, length, take, Some, None, refl, sym, ap, ◌∙◌, subst, inl, inr, arith}
+use Rattle.std.proofs.Common.{◌≡◌, ℕ, zero, suc, ◌<◌, Bool, true, false, ◌&&◌, ◌||◌, nat_eq, nat_lt, List, [], ◌∷◌, ◌++◌, length, take, Some, None, refl, sym, ap, ◌∙◌, subst, inl, inr, arith}
 use Rattle.std.specs.Prelude.{slice_get, ◌⊎◌}
-use Rattle.std.specs.List.{list_any, position_or_len}
+use Rattle.std.specs.List.{list_all, list_any, position_or_len}
 use Rattle.std.proofs.lemmas.List.Elements.{All-nil, All-push}
 use Rattle.std.proofs.lemmas.Option.{same_Some, slice_get_within}
 use Rattle.lego_term.specs.Trees.{Core}
-use Rattle.lego_term.specs.declared.binder.Mark.TheVariants.{Plain}
+use Rattle.lego_term.specs.declared.binder.Mark.{Mark}
+use Rattle.lego_term.specs.declared.binder.Mark.TheVariants.{Plain, Implicit}
+use Rattle.lego_laws.specs.Entries.{Entry}
+use Rattle.lego_grammar.specs.declared.surface.Kind.{Kind}
+use Rattle.lego_grammar.specs.Reading.{binder, bind_core, ReadsExplicitly}
+use Rattle.lego_grammar.specs.Scopes.{Scope, no_variables}
+use Rattle.lego_lexer.proofs.TokenLemmas.{and_true}
 use Rattle.lego_grammar.specs.Grammar.{Names}
 use Rattle.lego_grammar.specs.Written.{Written, WrittenBinding, WrittenCommand}
 use Rattle.lego_kernel.specs.Entries.{is_named, position_of, assumption}
 use Rattle.lego_kernel.specs.declared.entry.Entry.{Entry as Item}
 use Rattle.lego_session.specs.private.Printable.{NamesDiffer, HasArrows, IsPlain, IsPrintable, IsPrintableSession}
-use Rattle.lego_session.specs.Reading.{ReadsType}
+use Rattle.lego_session.specs.Reading.{is_arrow, is_simple, is_simple_assumption, is_built}
 use Rattle.lego_session.specs.Sessions.{Session, empty_session}
 use Rattle.lego_session.specs.Step.{Step, Reply}
-use Rattle.lego_session.specs.commands.Bindings.{AreNew, assume_all, BindsAll}
+use Rattle.lego_session.specs.commands.Bindings.{AreNew, assume_all, IsRead, BindsAll}
 use Rattle.lego_session.proofs.SessionLemmas.{step-throughout, All-front}
 use Rattle.lego_session.proofs.DenotesNames.{is_named_so, eq_self, lt_is, front_at}
 
 none_printable : IsPrintable []
 none_printable = record { apart = λ i j a b h k e. absurd (cc); plain = All-nil IsPlain }
 
--- a type that is read is made of arrows
-pub reads_arrows : {es : List Item} {w : Written} {t : Core} → ReadsType es w t → HasArrows t
-reads_arrows ReadsType.prop = tt
-reads_arrows (ReadsType.name i h k) = tt
-reads_arrows (ReadsType.arrow a b) = (refl, reads_arrows a, reads_arrows b)
+arrow_core : (kind : Kind) (mark : Mark) (c d : Core) → is_arrow kind mark [] ≡ true → HasArrows c → HasArrows d → HasArrows (bind_core kind (binder None mark) c d)
+arrow_core Kind.Pi Plain c d h p q = (refl, p, q)
+arrow_core Kind.Pi Implicit c d h p q = absurd (cc)
+arrow_core Kind.Lambda mark c d h p q = absurd (cc)
+arrow_core Kind.Sigma mark c d h p q = absurd (cc)
+
+pub named_binder : (kind : Kind) (mark : Mark) (n : ℕ) (ns : List ℕ) (b : Bool) → (is_arrow kind mark (n ∷ ns) && b) ≡ true → ⊥
+named_binder Kind.Pi Plain n ns b h = cc
+named_binder Kind.Pi Implicit n ns b h = cc
+named_binder Kind.Lambda mark n ns b h = cc
+named_binder Kind.Sigma mark n ns b h = cc
+
+-- a simple type that is read is made of arrows
+reads_arrows : {es : List Entry} {scope : Scope} {w : Written} {t : Core} → ReadsExplicitly es no_variables scope w t → is_simple w ≡ true → HasArrows t
+reads_arrows (ReadsExplicitly.local h) simple = tt
+reads_arrows (ReadsExplicitly.entry h k) simple = tt
+reads_arrows ReadsExplicitly.prop simple = tt
+reads_arrows (ReadsExplicitly.any_type h) simple = tt
+reads_arrows ReadsExplicitly.type_at simple = tt
+reads_arrows (ReadsExplicitly.nameless {kind = kind} {mark = mark} {s = s} {t = t} {a = a} {b = b} p q) simple =
+    let form = and_true (is_arrow kind mark []) (is_simple s && is_simple t) simple in
+    let parts = and_true (is_simple s) (is_simple t) form.1 in
+    arrow_core kind mark a b form.0 (reads_arrows p parts.0) (reads_arrows q parts.1)
+reads_arrows (ReadsExplicitly.named {kind = kind} {mark = mark} {n = n} {names = ns} {s = s} {t = t} p q) simple =
+    absurd (named_binder kind mark n ns (is_simple s && is_simple t) simple)
+reads_arrows (ReadsExplicitly.local_definition p q) simple = tt
+reads_arrows (ReadsExplicitly.apply p q) simple = tt
+reads_arrows (ReadsExplicitly.pair p k q r) simple = tt
+reads_arrows (ReadsExplicitly.project p) simple = absurd (cc)
 
 -- no entry has the name
 abbrev IsAbsent : List Item → ℕ → Type 0
@@ -43,7 +73,7 @@ module _ (p : Item → Bool) where
       by_test true here rest = rw here (omega arith)
       by_test false here rest = rw here (omega arith)
 
-absent : (es : List Item) (n : ℕ) → position_of es n ≡ None → IsAbsent es n
+pub absent : (es : List Item) (n : ℕ) → position_of es n ≡ None → IsAbsent es n
 absent es n none k a h is =
     let within : nat_lt (position_or_len (is_named n) es) (length es) ≡ true =
     lt_is _ _ (passes_within (is_named n) es k a h (is_named_so n a is)) in
@@ -77,11 +107,6 @@ one_more es n ty new arrows p = record {
   apart = differ_more es n (assumption es n Plain ty) refl new p.apart;
   plain = All-push IsPlain es (assumption es n Plain ty) p.plain (refl, arrows, (n, refl));
 }
-
--- an assumption of a new name, whose type was read
-pub printable_more : {es : List Item} {w : Written} {ty : Core} (n : ℕ) → IsPrintable es → ReadsType es w ty → position_of es n ≡ None
-    → IsPrintable (es ++ assumption es n Plain ty ∷ [])
-printable_more {es} {ty = ty} n p reads new = one_more es n ty (absent es n new) (reads_arrows reads) p
 
 -- the names of a list are absent, and differ from one another
 abbrev AreAbsent : List Item → List ℕ → Type 0
@@ -118,12 +143,18 @@ all_printable es (n ∷ ns) ty new arrows p =
     let x = assumption es n Plain ty in
     all_printable (es ++ x ∷ []) ns ty (absent_next es x n ns refl new) arrows (one_more es n ty (new 0 n refl).0 arrows p)
 
+-- the written type of a binding whose form is built
+pub simple_type : {es : List Item} {b : WrittenBinding} {ty : Core} → (read : IsRead es b ty) → is_simple_assumption b.kind ≡ true → is_simple read.written ≡ true
+simple_type read built = sym (ap is_simple_assumption read.says) ∙ built
+
 -- the entries that bindings make
-pub bound_printable : {old new : List Item} {bs : List WrittenBinding} → BindsAll old bs new → IsPrintable old → IsPrintable new
-bound_printable BindsAll.none p = p
-bound_printable (BindsAll.more {es = es} {b = b} h rest) p =
-    bound_printable rest (subst IsPrintable (sym h.makes)
-    (all_printable es b.names h.ty (new_absent es b.names h.read.new) (reads_arrows h.read.reads) p))
+pub bound_printable : {old new : List Item} {bs : List WrittenBinding} → BindsAll old bs new → list_all (λ b. is_simple_assumption b.kind) bs ≡ true
+    → IsPrintable old → IsPrintable new
+bound_printable BindsAll.none built p = p
+bound_printable (BindsAll.more {es = es} {b = b} {bs = bs} h rest) built p =
+    let form = and_true (is_simple_assumption b.kind) (list_all (λ b. is_simple_assumption b.kind) bs) built in
+    bound_printable rest form.1 (subst IsPrintable (sym h.makes)
+    (all_printable es b.names h.ty (new_absent es b.names h.read.new) (reads_arrows h.read.reads.reads (simple_type h.read form.0)) p))
 
 -- the first entries
 printable_front : (kept behind : List Item) → IsPrintable (kept ++ behind) → IsPrintable kept
@@ -133,8 +164,9 @@ printable_front kept behind p = record {
 }
 
 pub step_printable : {names : Names} {limit : ℕ} {old new : Session} {o : WrittenCommand} {a : Reply} → Step names limit old o a new
-    → IsPrintableSession old → IsPrintableSession new
-step_printable {names} {limit} step p = step-throughout IsPrintable printable_front names limit (λ es es' binds before. bound_printable binds before) step p
+    → is_built o.act ≡ true → IsPrintableSession old → IsPrintableSession new
+step_printable {names} {limit} step built p =
+    step-throughout IsPrintable printable_front names limit (λ bs is es es' binds before. bound_printable binds (sym (ap is_built is) ∙ built) before) step p
 
 pub empty_printable : IsPrintableSession empty_session
 empty_printable = record { now = none_printable; before = tt }

@@ -22,9 +22,9 @@ use Rattle.lego_kernel.specs.Contexts.{AreSimple, IsContext}
 use Rattle.lego_kernel.specs.Entries.{position_of, is_named}
 use Rattle.lego_kernel.specs.Simple.{IsSimpleOver}
 use Rattle.lego_kernel.specs.declared.entry.Entry.{Entry as Item}
-use Rattle.lego_session.specs.Reading.{is_arrow, is_simple, is_simple_assumption, arrow_binder, ReadsType, Visits}
-use Rattle.lego_session.specs.private.Reading.{IsNotRead, IsReading, IsMade}
-use Rattle.lego_session.specs.Reading as reading
+use Rattle.lego_session.specs.Reading.{is_arrow, is_simple, is_simple_assumption}
+use Rattle.lego_session.specs.private.Reading.{arrow_binder, ReadsSimply, Visits, IsNotRead, IsReading, IsMade}
+use Rattle.lego_session.specs.private.Reading as reading
 use Rattle.lego_session.specs.declared.reading.ReadFault.{ReadFault}
 use Rattle.lego_session.specs.declared.reading.ReadFault.TheVariants.{NotBuilt, Unknown, TooLarge, Memory}
 
@@ -128,7 +128,7 @@ module _ (es : List Item) where
   domain_not_read w a b (TooLarge i j) e h = (h.0, h.1, subst (λ w. Visits es w h.0) (sym e) (reading.Visits.domain h.2), h.3, h.4, h.5)
   domain_not_read w a b Memory e h = tt
 
-  pub body_not_read : (w a b : Written) (c : Core) (fault : ReadFault) → w ≡ Bind Kind.Pi Plain [] a b → ReadsType es a c → Fits c
+  pub body_not_read : (w a b : Written) (c : Core) (fault : ReadFault) → w ≡ Bind Kind.Pi Plain [] a b → ReadsSimply es a c → Fits c
       → IsNotRead es b fault → IsNotRead es w fault
   body_not_read w a b c NotBuilt e r l h = ap is_simple e ∙ ap (λ x. is_simple a && x) h ∙ and_false (is_simple a)
   body_not_read w a b c (Unknown p n) e r l h = (subst (λ w. Visits es w (Named p n)) (sym e) (reading.Visits.body r l h.0), h.1)
@@ -136,9 +136,9 @@ module _ (es : List Item) where
   body_not_read w a b c Memory e r l h = tt
 
   pub arrow_reads : (w a b : Written) (c d : Core) (result : Result Core ReadFault) → w ≡ Bind Kind.Pi Plain [] a b
-      → ReadsType es a c × IsSimpleOver es c × Fits c → ReadsType es b d × IsSimpleOver es d × Fits d → IsMade (Pi arrow_binder c d) result → IsReading es w result
+      → ReadsSimply es a c × IsSimpleOver es c × Fits c → ReadsSimply es b d × IsSimpleOver es d × Fits d → IsMade (Pi arrow_binder c d) result → IsReading es w result
   arrow_reads w a b c d (Ok made) e r s m = (
-    subst (λ t. ReadsType es w t) (sym m.0) (subst (λ w. ReadsType es w (Pi arrow_binder c d)) (sym e) (reading.ReadsType.arrow r.0 s.0)),
+    subst (λ t. ReadsSimply es w t) (sym m.0) (subst (λ w. ReadsSimply es w (Pi arrow_binder c d)) (sym e) (reading.ReadsSimply.arrow r.0 s.0)),
     subst (λ t. IsSimpleOver es t) (sym m.0) (r.1, s.1),
     subst Fits (sym m.0) m.1,
   )
@@ -168,7 +168,7 @@ module _ (es : List Item) where
 
   pub prop_reads : (w : Written) (result : Result Core ReadFault) → w ≡ WrittenProp → IsMade Prop result → IsReading es w result
   prop_reads w (Ok made) e m = (
-    subst (λ t. ReadsType es w t) (sym m.0) (subst (λ w. ReadsType es w Prop) (sym e) reading.ReadsType.prop),
+    subst (λ t. ReadsSimply es w t) (sym m.0) (subst (λ w. ReadsSimply es w Prop) (sym e) reading.ReadsSimply.prop),
     subst (λ t. IsSimpleOver es t) (sym m.0) tt,
     subst Fits (sym m.0) m.1,
   )
@@ -180,7 +180,7 @@ module _ (es : List Item) where
   pub name_reads : (p : Place) (n i : ℕ) (e : Item) (result : Result Core ReadFault) → IsContext es → position_of es n ≡ Some i → slice_get es i ≡ Some e
       → IsMade (Const e.number) result → IsReading es (Named p n) result
   name_reads p n i e (Ok made) c at is m = (
-    subst (λ t. ReadsType es (Named p n) t) (sym m.0) (reading.ReadsType.name i at is),
+    subst (λ t. ReadsSimply es (Named p n) t) (sym m.0) (reading.ReadsSimply.name i at is),
     subst (λ t. IsSimpleOver es t) (sym m.0) (subst (λ n. e.number < n) (zero-add (length es)) (number_within 0 i es e c.simple is)),
     subst Fits (sym m.0) m.1,
   )

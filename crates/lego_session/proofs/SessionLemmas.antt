@@ -1,5 +1,5 @@
 -- What holds of the entries throughout a session goes on to hold.
-use Rattle.std.proofs.Common.{ℕ, List, [], ◌∷◌, ◌++◌, sym, subst, arith, length-append}
+use Rattle.std.proofs.Common.{◌≡◌, refl, ℕ, List, [], ◌∷◌, ◌++◌, sym, subst, arith, length-append}
 use Rattle.std.specs.Prelude.{All}
 use Rattle.std.proofs.lemmas.List.{get_or_append_left}
 use Rattle.std.specs.List.{AllByRecursion}
@@ -10,7 +10,7 @@ use Rattle.lego_kernel.specs.declared.entry.Entry.{Entry as Item}
 use Rattle.lego_undo.specs.Histories.{Held}
 use Rattle.lego_undo.specs.declared.state.State.{State}
 use Rattle.lego_session.specs.Sessions.{Session, Moves, Stays, Undoes, HoldsThroughout}
-use Rattle.lego_session.specs.Step.{Reply, Step, Accepts, bounds_of}
+use Rattle.lego_session.specs.Step.{Reply, Step, Accepts}
 use Rattle.lego_session.specs.commands.Bindings.{BindsAll}
 
 all_push : {X : Type 0} (P : X → Type 0) (xs : List X) (x : X) → AllByRecursion P xs → P x → AllByRecursion P (xs ++ x ∷ [])
@@ -59,9 +59,9 @@ module _ (P : List Item → Type 0) where
 
   -- a property of a list's fronts goes on to hold where bindings keep it
   module _ (front : (kept behind : List Item) → P (kept ++ behind) → P kept) (names : Names) (limit : ℕ) where
-    pub accepted-throughout : {old new : Session} (text : List ℕ) (act : WrittenAct) → ((es es' : List Item) → BindsAll es (bounds_of act) es' → P es → P es')
+    pub accepted-throughout : {old new : Session} (text : List ℕ) (act : WrittenAct) → ((bs : List WrittenBinding) → act ≡ written.Bindings bs → (es es' : List Item) → BindsAll es bs es' → P es → P es')
         → Accepts names limit old act text new → HoldsThroughout P old → HoldsThroughout P new
-    accepted-throughout text (written.Bindings bs) binds a h = moved h (binds _ a.context a.binds h.now) a.moves
+    accepted-throughout text (written.Bindings bs) binds a h = moved h (binds bs refl _ a.context a.binds h.now) a.moves
     accepted-throughout text (written.Undo n) binds a h = undone h a.undoes
     accepted-throughout text (written.Forget x) binds a h = moved h (front a.kept (a.entry ∷ a.behind) (subst P a.there h.now)) a.moves
     accepted-throughout text written.Ctxt binds a h = stayed h a.stays
@@ -82,7 +82,7 @@ module _ (P : List Item → Type 0) where
     accepted-throughout text (written.Save x) binds a h = absurd a
     accepted-throughout text (written.Discharge x) binds a h = absurd a
 
-    pub step-throughout : {old new : Session} {o : WrittenCommand} {a : Reply} → ((es es' : List Item) → BindsAll es (bounds_of o.act) es' → P es → P es')
+    pub step-throughout : {old new : Session} {o : WrittenCommand} {a : Reply} → ((bs : List WrittenBinding) → o.act ≡ written.Bindings bs → (es es' : List Item) → BindsAll es bs es' → P es → P es')
         → Step names limit old o a new → HoldsThroughout P old → HoldsThroughout P new
     step-throughout {o = o} binds (Step.accepted {text = text} a) h = accepted-throughout text o.act binds a h
     step-throughout binds (Step.refused p cause scope r) h = h

@@ -29,6 +29,10 @@ named : (text other : List ℕ) → token_of text ≡ Some (Name other) → (has
 named text other h =
     is_name_form text other (number_value text) (written_as word_text words text) (written_as symbol_text symbols text) (has_name_form text) (has_number_form text) h
 
+-- the text of a name has the form of one
+pub has_form : (text other : List ℕ) → token_of text ≡ Some (Name other) → has_name_form text ≡ true
+has_form text other h = (named text other h).0
+
 -- a name has the form of one
 pub name_form : (text : List ℕ) → token_of text ≡ Some (Name text) → has_name_form text ≡ true
 name_form text h = (named text text h).0

@@ -6,7 +6,6 @@ pub mod Refusals
 pub mod commands
 pub mod Step
 pub mod Answers
-pub mod Denotes
 pub mod Headline
 pub mod Runs
 pub mod Statuses

@@ -4,7 +4,7 @@ use Rattle.std.specs.List.{AllByRecursion}
 use Rattle.lego_term.specs.Trees.{Core, Var, Const, Prop, Univ, Pi, Lam, App, Sigma, Pair, Fst, Snd, Let}
 use Rattle.lego_lexer.specs.Tokens.{Name, token_of}
 use Rattle.lego_grammar.specs.Grammar.{Names}
-use Rattle.lego_kernel.specs.declared.entry.Entry.{Entry as Item}
+use Rattle.lego_kernel.specs.declared.entry.Entry.{Entry}
 use Rattle.lego_session.specs.Sessions.{Session, HoldsThroughout}
 
 -- the text of a number
@@ -42,10 +42,10 @@ AreBindersHeld names (Snd m) = AreBindersHeld names m
 AreBindersHeld names (Let x m n) = IsHeldWhere names x.name × AreBindersHeld names m × AreBindersHeld names n
 
 -- each name that occurs in the entry, as its own or as a binder's, is held
-abbrev pub IsKnown : Names → Item → Type 0
+abbrev pub IsKnown : Names → Entry → Type 0
 IsKnown names e = IsHeldWhere names e.name × AreBindersHeld names e.ty
 
-abbrev pub AreKnown : Names → List Item → Type 0
+abbrev pub AreKnown : Names → List Entry → Type 0
 AreKnown names es = All (IsKnown names) es
 
 -- so of the entries of the present state and of the history's states

@@ -3,7 +3,7 @@ use Rattle.std.specs.Prelude.{ℕ, ◌+◌, ◌/◌, ◌%◌, nat_le, nat_lt, �
 use Rattle.lego_base.specs.declared.place.Place.{Place}
 use Rattle.lego_term.specs.declared.seen.Seen.{Seen}
 use Rattle.lego_grammar.specs.Grammar.{Names}
-use Rattle.lego_kernel.specs.declared.entry.Entry.{Entry as Item}
+use Rattle.lego_kernel.specs.declared.entry.Entry.{Entry}
 use Rattle.lego_kernel.specs.declared.fault.Counted.{Counted}
 use Rattle.lego_kernel.specs.declared.fault.Counted.TheVariants.{Entries, Levels}
 use Rattle.lego_session.specs.Names.{name_text}
@@ -25,7 +25,7 @@ byte_text b = if nat_le 0x21 b && nat_le b 0x7E then b ∷ [] else codes "\\x" +
 
 -- what is in scope where a command is refused: the entries, those of earlier bindings of the command among them
 pub record Scope : Type 0 where
-  pub entries : List Item
+  pub entries : List Entry
 
 -- a term of a refusal; so far it is a type
 abbrev pub seen_text : Names → Scope → Seen → List ℕ

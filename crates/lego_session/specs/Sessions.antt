@@ -1,7 +1,7 @@
 -- Sessions: the present state with its number of level variables, and the history; and how a command moves them.
 use Rattle.std.specs.Prelude.{◌≡◌, ℕ, suc, ◌+◌, ◌≤◌, List, [], ◌∷◌, ◌++◌, length}
 use Rattle.std.specs.List.{AllByRecursion}
-use Rattle.lego_kernel.specs.declared.entry.Entry.{Entry as Item}
+use Rattle.lego_kernel.specs.declared.entry.Entry.{Entry}
 use Rattle.lego_undo.specs.Histories.{Held}
 use Rattle.lego_undo.specs.declared.state.State.{State}
 
@@ -15,7 +15,7 @@ abbrev pub empty_session : Session
 empty_session = record { now = record { state = record { context = [] }; levels = 0 }; history = [] }
 
 -- the entries of the present state
-abbrev pub entries_of : Session → List Item
+abbrev pub entries_of : Session → List Entry
 entries_of s = s.now.state.context
 
 -- A command that counts for Undo: the old state goes to the history's end, with a number at most that beside it. So many
@@ -41,6 +41,6 @@ pub data Undoes (old : Session) : ℕ → Session → Type 0 where
       → Undoes old (suc (length dropped)) new
 
 -- the entries of the present state have the property, and so have those of the history's states
-pub record HoldsThroughout (P : List Item → Type 0) (s : Session) : Type 0 where
+pub record HoldsThroughout (P : List Entry → Type 0) (s : Session) : Type 0 where
   pub now : P (entries_of s)
   pub before : AllByRecursion (λ h. P h.state.context) s.history

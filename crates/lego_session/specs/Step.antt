@@ -66,6 +66,6 @@ IsFeasible s Ctxt = Unit {0}
 IsFeasible s _ = ⊥
 
 -- the bindings of a context command
-abbrev pub bounds_of : WrittenAct → List WrittenBinding
-bounds_of (Bindings bs) = bs
-bounds_of _ = []
+abbrev pub bindings_of : WrittenAct → List WrittenBinding
+bindings_of (Bindings bs) = bs
+bindings_of _ = []

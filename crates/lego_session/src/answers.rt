@@ -2,11 +2,11 @@
 ghost use Rattle.std.specs.Prelude.{◌≡◌, ◌≤◌, ◌+◌, true, length, IfSome, IfNone};
 ghost use Rattle.lego_lexer.specs.Commands.{IsCommandText};
 ghost use Rattle.lego_grammar.specs.Surface.{written_command};
+ghost use Rattle.lego_grammar.specs.WrittenForm.{IsWrittenForm};
 ghost use Rattle.lego_session.specs.Answers.{Answers};
 ghost use Rattle.lego_session.specs.Names.{IsKnownSession};
 ghost use Rattle.lego_session.specs.Reading.{is_built};
-ghost use Rattle.lego_session.specs.Step.{Step, bounds_of};
-ghost use Rattle.lego_session.specs.commands.Bindings.{HasPlaces};
+ghost use Rattle.lego_session.specs.Step.{Step};
 ghost use Rattle.lego_session.specs.private.Unread.{IsWritten};
 
 use crate::command_text::read_command;
@@ -61,8 +61,8 @@ fn run_command(
     limit: u64,
     command: Command,
 ) -> Option<Answered>
+    requires form { IsWrittenForm command }
     requires built { is_built (written_command command).act ≡ true }
-    requires places { HasPlaces (bounds_of (written_command command).act) }
     ensures answered { IfSome result (λ a. Step names.now limit session.old (written_command command) (record { refused = a.refused; text = a.text }) session.new) }
     ensures none { IfNone result (session.new ≡ session.old) }
 {

@@ -1,6 +1,7 @@
 //! The command that bytes are, or why they are none.
 ghost use Rattle.std.specs.Prelude.{◌≡◌, ◌≤◌, ◌+◌, true, length, map, IfOk, IfErr, IfSome, IfNone};
 ghost use Rattle.lego_grammar.specs.Surface.{written_command};
+ghost use Rattle.lego_grammar.specs.WrittenForm.{IsWrittenForm};
 ghost use Rattle.lego_lexer.specs.Commands.{IsCommandText};
 ghost use Rattle.lego_lexer.specs.Tokens.{placed};
 ghost use Rattle.lego_lexer.specs.declared.token.Token.{Token as PlacedToken};
@@ -32,6 +33,7 @@ pub(crate) fn read_command(
     requires some { length bytes.now ≤ 16777216 }
     requires text { IsCommandText bytes.now }
     ensures command { IfOk result (λ command. IsNumberedCommand names.old names.new (record { place = place; bytes = bytes.now }) (written_command command)) }
+    ensures form { IfOk result IsWrittenForm }
     ensures built { IfOk result (λ command. is_built (written_command command).act ≡ true) }
     ensures unread { IfErr result (λ unread. IsUnreadBy names.old names.new (record { place = place; bytes = bytes.now }) unread.place unread.cause) }
 {
@@ -54,27 +56,16 @@ fn not_lexed(place: Place, fault: LexFault) -> Reason
     ensures place { result.place ≡ lex_place fault place }
     ensures cause { result.cause ≡ lex_cause fault }
 {
-    match fault {
-        LexFault::BadByte { place, byte } => Reason {
-            place,
-            cause: Cause::BadByte { byte },
-        },
-        LexFault::OpenComment { place } => Reason {
-            place,
-            cause: Cause::OpenComment,
-        },
-        LexFault::LongName { place } => Reason {
-            place,
-            cause: Cause::LongName,
-        },
-        LexFault::BigLevel { place } => Reason {
-            place,
-            cause: Cause::BigLevel,
-        },
-        LexFault::Memory => Reason {
-            place,
-            cause: Cause::Memory,
-        },
+    let place = match fault {
+        LexFault::BadByte { place, .. }
+        | LexFault::OpenComment { place }
+        | LexFault::LongName { place }
+        | LexFault::BigLevel { place } => place,
+        LexFault::Memory => place,
+    };
+    Reason {
+        place,
+        cause: Cause::from(fault),
     }
 }
 
@@ -89,6 +80,7 @@ fn parse_command(
     requires lexed { HasTokens (record { place = place; bytes = bytes.now }) (map (placed bytes.now) tokens.now) }
     requires text { IsCommandText bytes.now }
     ensures command { IfOk result (λ command. IsNumberedCommand names.old names.new (record { place = place; bytes = bytes.now }) (written_command command)) }
+    ensures form { IfOk result IsWrittenForm }
     ensures built { IfOk result (λ command. is_built (written_command command).act ≡ true) }
     ensures unread { IfErr result (λ unread. IsUnreadBy names.old names.new (record { place = place; bytes = bytes.now }) unread.place unread.cause) }
 {
@@ -96,7 +88,7 @@ fn parse_command(
         Ok(command) => command,
         Err(fault) => return Err(not_parsed(alloc, place, bytes, tokens, fault)),
     };
-    if is_built(&command.act) {
+    if is_built(&command) {
         return Ok(command);
     }
     let Some(first) = tokens.first() else {

@@ -2,13 +2,14 @@
 ghost use Rattle.std.specs.Prelude.{◌≡◌};
 ghost use Rattle.std.specs.List.{list_all};
 ghost use Rattle.lego_term.specs.Trees.{Const, Prop, Pi};
-ghost use Rattle.lego_grammar.specs.Surface.{written, written_act, written_kind};
+ghost use Rattle.lego_grammar.specs.Surface.{written, written_command, written_kind};
+ghost use Rattle.lego_grammar.specs.WrittenForm.{IsWrittenForm};
 ghost use Rattle.lego_grammar.specs.Written.{Named};
-ghost use Rattle.lego_session.specs.Reading.{is_arrow, is_simple, is_simple_assumption, is_built, arrow_binder};
-ghost use Rattle.lego_session.specs.private.Reading.{read_fault, IsReading, IsMade};
+ghost use Rattle.lego_session.specs.Reading.{is_arrow, is_simple, is_simple_assumption, is_built};
+ghost use Rattle.lego_session.specs.private.Reading.{arrow_binder, read_fault, IsReading, IsMade};
 
 use lego_base::Place;
-use lego_grammar::{Act, Binding, BindingKind, Kind, Surface};
+use lego_grammar::{Act, Binding, BindingKind, Command, Kind, Surface};
 use lego_kernel::Context;
 use lego_term::{Binder, Mark, Term, TermFault, konst, pi, prop};
 use std::alloc::Global;
@@ -38,10 +39,11 @@ impl From<TermFault> for ReadFault {
 }
 
 /// Whether the form of a command is built.
-pub fn is_built(act: &Act) -> bool
-    ensures { result ≡ is_built (written_act act.now) }
+pub fn is_built(command: &Command) -> bool
+    requires { IsWrittenForm command.now }
+    ensures { result ≡ is_built (written_command command.now).act }
 {
-    match act {
+    match &command.act {
         Act::Bind { bindings } => are_built(bindings.items()),
         Act::Undo { .. } => true,
         Act::Forget { .. } => true,

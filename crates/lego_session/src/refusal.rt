@@ -7,7 +7,9 @@ ghost use Rattle.lego_session.specs.private.Refusals.{IsRefusalOf};
 use crate::refusal_text::refusal_text;
 use lego_base::{Names, Place};
 use lego_kernel::{Context, Counted};
+use lego_lexer::LexFault;
 use lego_term::{List, Seen};
+use lego_undo::UndoFault;
 use std::alloc::Global;
 
 /// Why a command is refused.
@@ -80,6 +82,34 @@ impl Cause {
             Cause::Memory => (0, b""),
         };
         Heading { number, name }
+    }
+}
+
+impl From<LexFault> for Cause {
+    ghost use Rattle.lego_session.specs.Answers.{lex_cause};
+
+    ghost from_gives = { λ fault cause. cause ≡ lex_cause fault };
+
+    fn from(fault: LexFault) -> Cause {
+        match fault {
+            LexFault::BadByte { byte, .. } => Cause::BadByte { byte },
+            LexFault::OpenComment { .. } => Cause::OpenComment,
+            LexFault::LongName { .. } => Cause::LongName,
+            LexFault::BigLevel { .. } => Cause::BigLevel,
+            LexFault::Memory => Cause::Memory,
+        }
+    }
+}
+
+impl From<UndoFault> for Cause {
+    ghost use Rattle.lego_session.specs.private.Refusals.{undo_cause};
+
+    ghost from_gives = { λ fault cause. cause ≡ undo_cause fault };
+
+    fn from(fault: UndoFault) -> Cause {
+        match fault {
+            UndoFault::TooFar { asked, held } => Cause::TooFar { asked, held },
+        }
     }
 }
 

@@ -1,15 +1,17 @@
 //! A session: its state and its history, and the commands that change them.
 ghost use Rattle.std.specs.Prelude.{◌≡◌, true, false, OnErr, IfOk, IfErr};
+ghost use Rattle.lego_base.specs.Names.{AreDistinct};
 ghost use Rattle.lego_grammar.specs.Grammar.{Names as Numbering};
 ghost use Rattle.lego_grammar.specs.Surface.{written_command};
+ghost use Rattle.lego_grammar.specs.WrittenForm.{IsWrittenForm};
 ghost use Rattle.lego_undo.specs.Histories.{old_states, GoesWith};
 ghost use Rattle.lego_session.specs.Headline.{Headline};
 ghost use Rattle.lego_session.specs.Names.{IsKnownSession};
 ghost use Rattle.lego_session.specs.Reading.{is_built};
 ghost use Rattle.lego_session.specs.Sessions.{empty_session, entries_of};
-ghost use Rattle.lego_session.specs.Step.{Step, IsRefusal, IsFeasible, counts, bounds_of};
+ghost use Rattle.lego_session.specs.Step.{Step, IsRefusal, IsFeasible, counts, bindings_of};
 ghost use Rattle.lego_session.specs.Texts.{development_text};
-ghost use Rattle.lego_session.specs.commands.Bindings.{HasPlaces, AreBoundHeld};
+ghost use Rattle.lego_session.specs.commands.Bindings.{AreBoundHeld};
 ghost use Rattle.lego_session.specs.private.Refusals.{IsRefusalOf};
 ghost use Rattle.lego_session.specs.declared.refusal.Cause.TheVariants.{Memory};
 
@@ -84,21 +86,22 @@ impl Session {
         &self.parts.history
     }
 
-    /// Runs one command of a form that is built: assumptions, `Undo`, `Forget` or `Ctxt`.
+    /// Runs one command of a form that is built: assumptions, `Undo`, `Forget` or `Ctxt`. The
+    /// command stands for a written form within the limits, as `parse` gives it.
     ///
     /// # Errors
     ///
     /// A refusal, with its place, cause and text; the session is then as before. `limit` is
     /// the most steps of one comparison or reduction; no command so far makes any.
     pub fn step(&mut self, names: &Names, command: &Command, limit: u64) -> Result<Answer, Refusal>
+        requires form { IsWrittenForm command.now }
         requires built { is_built (written_command command.now).act ≡ true }
-        requires places { HasPlaces (bounds_of (written_command command.now).act) }
         ensures ok { IfOk result (λ answer. Step names.now limit self.old (written_command command.now) (record { refused = false; text = answer.text }) self.new) }
         ensures counts { IfOk result (λ answer. answer.step ≡ counts (written_command command.now).act) }
         ensures cause { IfErr result (λ refusal. IsRefusal names.now limit self.old (written_command command.now) refusal.place refusal.cause refusal.text) }
         ensures err { OnErr result (self.new ≡ self.old) }
         ensures complete { IfErr result (λ refusal. IsFeasible self.old (written_command command.now).act → refusal.cause ≡ Memory) }
-        ensures known { IsKnownSession names.now self.old → AreBoundHeld names.now (bounds_of (written_command command.now).act) → IsKnownSession names.now self.new }
+        ensures known { IsKnownSession names.now self.old → AreBoundHeld names.now (bindings_of (written_command command.now).act) → IsKnownSession names.now self.new }
     {
         match &command.act {
             Act::Bind { bindings } => {
@@ -122,19 +125,31 @@ impl Session {
     /// The entries, whose development reads back as them where their names are held.
     pub(crate) fn context(&self) -> &Context
         ensures entries { result.now ≡ entries_of self.now }
-        ensures headline { (names : Numbering) → IsKnownSession names self.now → Headline names (entries_of self.now) }
+        ensures headline { (names : Numbering) → AreDistinct names → IsKnownSession names self.now → Headline names (entries_of self.now) }
     {
         let _entries = self.parts.state.context.len();
         &self.parts.state.context
     }
 
-    /// The text of the development: `Explicit;` and a command for each entry. It reads back as
-    /// the entries, in which each assumption's type is a type by Luo's rules.
+    /// What is promised of the development of the entries: at their least levels its text
+    /// denotes them, and they hold by Luo's rules. The call does nothing.
+    pub fn headline(&self, names: &Names)
+        requires { IsKnownSession names.now self.now }
+        ensures { Headline names.now (entries_of self.now) }
+    {
+        // So each text has one number.
+        let _count = names.len();
+        let _context = self.context();
+    }
+
+    /// The text of the development: `Explicit;` and a command for each entry. It denotes the
+    /// entries, in which each assumption's type is a type by Luo's rules.
     pub fn development(&self, names: &Names) -> Result<Vec<u8>, AllocError>
         requires { IsKnownSession names.now self.now }
         ensures text { IfOk result (λ text. text.items ≡ development_text names.now (entries_of self.now)) }
         ensures headline { Headline names.now (entries_of self.now) }
     {
+        self.headline(names);
         development(self.parts.alloc, names, self.context())
     }
 }

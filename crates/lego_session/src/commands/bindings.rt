@@ -12,8 +12,8 @@ ghost use Rattle.lego_grammar.specs.Surface.{written_binding, written_kind};
 ghost use Rattle.lego_kernel.specs.Entries.{position_of};
 ghost use Rattle.lego_kernel.specs.Simple.{IsSimpleOver};
 ghost use Rattle.lego_session.specs.Reading.{is_simple_assumption};
-ghost use Rattle.lego_session.specs.commands.Bindings.{AreNew, Binds, BindsAll, HasPlaces, AddsBindings};
-ghost use Rattle.lego_session.specs.private.Binding.{IsFirstUsed, Assumes, AssumeFails, IsFront, IsReadRefusal, IsCauseOf, BindFails, BindAllFails};
+ghost use Rattle.lego_session.specs.commands.Bindings.{AreNew, Binds, BindsAll, AddsBindings};
+ghost use Rattle.lego_session.specs.private.Binding.{HasPlaces, IsFirstUsed, Assumes, AssumeFails, IsFront, IsReadRefusal, IsCauseOf, BindFails, BindAllFails};
 
 use crate::parts::Parts;
 use crate::reading::{ReadFault, core_of};

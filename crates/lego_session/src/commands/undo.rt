@@ -12,20 +12,7 @@ use crate::session::Answer;
 use crate::text::push_number;
 use lego_base::{Names, Place};
 use lego_term::List;
-use lego_undo::UndoFault;
 use std::alloc::{AllocError, Global};
-
-impl From<UndoFault> for Cause {
-    ghost use Rattle.lego_session.specs.private.Refusals.{undo_cause};
-
-    ghost from_gives = { λ fault cause. cause ≡ undo_cause fault };
-
-    fn from(fault: UndoFault) -> Cause {
-        match fault {
-            UndoFault::TooFar { asked, held } => Cause::TooFar { asked, held },
-        }
-    }
-}
 
 impl Parts {
     /// Takes the last steps back. The text takes its memory before.

@@ -1,11 +1,7 @@
 use Rattle.std.proofs.Common.{arith}
 use Rattle.lego_grammar.specs.Surface.{written_command}
 use Rattle.lego_session.proofs.AnswerLemmas.{numbered, command_written, unread_written, written_known}
-use Rattle.lego_session.proofs.PlacesLemmas.{parsed_places}
 use Rattle.lego_session.proofs.answers.answer.Goals as goal
-
-pub run_command-requires-clause-places : goal.run_command-requires-clause-places
-run_command-requires-clause-places c = parsed_places c.in-Ok.ensures.command.command.parsed
 
 pub returns-in-Ok-clause-answered : goal.returns-in-Ok-clause-answered
 returns-in-Ok-clause-answered c =

@@ -1,6 +1,6 @@
 use Rattle.std.proofs.Common.{sym, ◌∙◌}
 use Rattle.lego_parser.proofs.RangesOfNames.{names_have_ranges}
-use Rattle.lego_session.proofs.CommandLemmas.{ends_so, its_token, not_parsed_unread, numbered_command, first_token, unbuilt_unread, token_range}
+use Rattle.lego_session.proofs.CommandLemmas.{ends_so, its_token, not_parsed_unread, numbered_command, first_token, unbuilt_unread, token_range, written_form}
 use Rattle.lego_session.proofs.command_text.parse_command.Goals as goal
 
 pub parse-requires-clause-ranges : goal.parse-requires-clause-ranges
@@ -8,6 +8,9 @@ parse-requires-clause-ranges c = names_have_ranges c.args.place c.args.bytes.now
 
 pub parse-requires-clause-ends : goal.parse-requires-clause-ends
 parse-requires-clause-ends c = ends_so c.args.place c.args.bytes.now c.args.tokens.now c.requires.text c.requires.lexed.lexed
+
+pub is_built-requires : goal.is_built-requires
+is_built-requires c = written_form c.args.place c.args.bytes.now c.args.tokens.now c.in-Ok.command c.requires.lexed c.in-Ok.ensures.form
 
 pub not_parsed-requires-clause-token : goal.not_parsed-requires-clause-token
 not_parsed-requires-clause-token c = its_token c.args.names.now c.args.bytes.now c.args.tokens.now c.in-Err.fault c.in-Err.ensures.cause
@@ -19,6 +22,9 @@ returns-in-Err-clause-unread c =
 pub returns-then-is_built-clause-command : goal.returns-then-is_built-clause-command
 returns-then-is_built-clause-command c =
     numbered_command c.args.names.now c.parse.new.names c.args.place c.args.bytes.now c.args.tokens.now _ c.requires.lexed c.in-Ok.ensures.command c.in-Ok.ensures.numbered
+
+pub returns-then-is_built-clause-form : goal.returns-then-is_built-clause-form
+returns-then-is_built-clause-form c = written_form c.args.place c.args.bytes.now c.args.tokens.now c.in-Ok.command c.requires.lexed c.in-Ok.ensures.form
 
 pub unreachable-requires : goal.unreachable-requires
 unreachable-requires c = first_token c.parse.new.names c.args.bytes.now c.args.tokens.now _ c.in-Ok.ensures.command (sym c.in_default.ensures.value)

@@ -4,8 +4,8 @@ use Rattle.lego_grammar.specs.Surface.{written}
 use Rattle.lego_grammar.specs.Written.{Written}
 use Rattle.lego_grammar.specs.declared.surface.Part.{Part}
 use Rattle.lego_grammar.specs.declared.surface.Surface.{Surface}
-use Rattle.lego_session.specs.Reading.{is_arrow, is_simple, ReadsType}
-use Rattle.lego_session.specs.private.Reading.{IsNotRead, IsReading}
+use Rattle.lego_session.specs.Reading.{is_arrow, is_simple}
+use Rattle.lego_session.specs.private.Reading.{ReadsSimply, IsNotRead, IsReading}
 use Rattle.lego_session.proofs.ReadingLemmas.{arrow_is, domain_not_read, body_not_read, arrow_reads, prop_reads, written-Prop, simple-Apply, simple-Project, same-Apply, same-Project}
 use Rattle.lego_session.proofs.reading.+core_of.Goals as goal
 
@@ -20,7 +20,7 @@ pub returns-in-Err-core_of : goal.returns-in-Err-core_of
 returns-in-Err-core_of t c =
     let form = ap (is_arrow c.in-Bind.kind c.in-Bind.mark) (sym c.items.ensures) ∙ sym c.if-not-is_arrow.ensures in
     let shape = arrow_is c.in-Bind.kind c.in-Bind.mark c.in-Bind.names c.in-Bind.domain c.in-Bind.body c.args.ty.now c.in-Bind.is form in
-    let domain = subst (λ (s : Surface). ReadsType c.args.context.now (written s) c.in-Ok.domain) c.get.ensures c.in-Ok.ensures.0 in
+    let domain = subst (λ (s : Surface). ReadsSimply c.args.context.now (written s) c.in-Ok.domain) c.get.ensures c.in-Ok.ensures.0 in
     body_not_read c.args.context.now (written c.args.ty.now) (written c.in-Bind.domain) (written c.in-Bind.body) c.in-Ok.domain c.in-Err-core_of.fault shape domain c.in-Ok.ensures.2
     (subst (λ (s : Surface). IsNotRead c.args.context.now (written s) c.in-Err-core_of.fault) c.get-in-Bind.ensures c.in-Err-core_of.ensures)
 
@@ -28,8 +28,8 @@ pub returns-in-Ok-core_of : goal.returns-in-Ok-core_of
 returns-in-Ok-core_of t c =
     let form = ap (is_arrow c.in-Bind.kind c.in-Bind.mark) (sym c.items.ensures) ∙ sym c.if-not-is_arrow.ensures in
     let shape = arrow_is c.in-Bind.kind c.in-Bind.mark c.in-Bind.names c.in-Bind.domain c.in-Bind.body c.args.ty.now c.in-Bind.is form in
-    let domain = subst (λ (s : Surface). ReadsType c.args.context.now (written s) c.in-Ok.domain) c.get.ensures c.in-Ok.ensures.0 in
-    let body = subst (λ (s : Surface). ReadsType c.args.context.now (written s) c.in-Ok-core_of.body) c.get-in-Bind.ensures c.in-Ok-core_of.ensures.0 in
+    let domain = subst (λ (s : Surface). ReadsSimply c.args.context.now (written s) c.in-Ok.domain) c.get.ensures c.in-Ok.ensures.0 in
+    let body = subst (λ (s : Surface). ReadsSimply c.args.context.now (written s) c.in-Ok-core_of.body) c.get-in-Bind.ensures c.in-Ok-core_of.ensures.0 in
     arrow_reads c.args.context.now (written c.args.ty.now) (written c.in-Bind.domain) (written c.in-Bind.body) c.in-Ok.domain c.in-Ok-core_of.body c.arrow.result shape
     (domain, c.in-Ok.ensures.1, c.in-Ok.ensures.2) (body, c.in-Ok-core_of.ensures.1, c.in-Ok-core_of.ensures.2) c.arrow.ensures
 

@@ -1,6 +1,6 @@
 use Rattle.std.proofs.Common.{sym, ap, ◌∙◌}
 use Rattle.std.specs.Option.{option_copied}
-use Rattle.lego_session.specs.Reading as reading
+use Rattle.lego_session.specs.private.Reading as reading
 use Rattle.lego_session.proofs.ReadingLemmas.{position_within, name_reads, is_there}
 use Rattle.lego_session.proofs.reading.constant_of.Goals as goal
 

@@ -3,6 +3,7 @@ use Rattle.lego_grammar.specs.Surface.{written_binding, written}
 use Rattle.lego_session.specs.private.Binding.{IsFirstUsed, Assumes, AssumeFails}
 use Rattle.lego_session.specs.commands.Bindings.{AreNew, IsRead}
 use Rattle.lego_session.proofs.BindAllLemmas.{says_plain, in_use_fails, not_read_fails, other_read_fault, other_fault, not_assumed_fails, binds}
+use Rattle.lego_session.proofs.ExplicitLemmas.{reads_within}
 use Rattle.lego_session.proofs.commands.bindings.bind.Goals as goal
 
 pub returns-in-Some-clause-cause : goal.returns-in-Some-clause-cause
@@ -36,8 +37,7 @@ returns-in-Ok-assume_names-clause-ok c =
       new = subst (λ (ns : List ℕ). AreNew c.args.context.now ns) c.items-names.ensures new;
       written = written c.in-Assume.ty;
       says = says.0;
-      reads = c.in-Ok-core_of.ensures.0;
-      fits = c.in-Ok-core_of.ensures.2;
+      reads = reads_within c.in-Ok-core_of.ensures.0 c.in-Ok-core_of.ensures.2;
     } in
     binds c.args.context.now (written_binding c.args.binding.now) c.in-Ok-core_of.ty c.assume_names.new.context c.len-before.ensures.valid read
     (subst (λ (ns : List ℕ). Assumes c.args.context.now ns c.in-Ok-core_of.ty c.assume_names.new.context) c.items-names.ensures c.in-Ok-assume_names.ensures.ok)
@@ -50,8 +50,7 @@ returns-clause-cause c =
       new = subst (λ (ns : List ℕ). AreNew c.args.context.now ns) c.items-names.ensures new;
       written = written c.in-Assume.ty;
       says = says.0;
-      reads = c.in-Ok-core_of.ensures.0;
-      fits = c.in-Ok-core_of.ensures.2;
+      reads = reads_within c.in-Ok-core_of.ensures.0 c.in-Ok-core_of.ensures.2;
     } in
     not_assumed_fails c.args.context.now (written_binding c.args.binding.now) c.in-Ok-core_of.ty c.in-Err-assume_names.fault c.not_assumed.result.place c.not_assumed.result.cause
     c.len-before.ensures.valid read

@@ -11,12 +11,18 @@ use Rattle.lego_session.specs.private.Parts.{session_of}
 use Rattle.lego_session.proofs.ReadingLemmas.{built-map}
 use Rattle.lego_session.proofs.DispatchLemmas.{accepts, refuses, completes, stays_printable, same_parts, shows}
 use Rattle.lego_session.proofs.KnownLemmas.{outcome_known}
+use Rattle.lego_session.proofs.PlacesLemmas.{form_places}
 use Rattle.lego_session.proofs.session.Session.step.Goals as goal
 
 pub bind-requires-clause-built : goal.bind-requires-clause-built
 bind-requires-clause-built c =
     ap (λ (bs : List Binding). list_all (λ b. is_simple_assumption (written_kind b.kind)) bs) c.items.ensures
     ∙ (sym (built-map c.in-Bind.bindings) ∙ (ap (λ a. is_built (written_act a)) (sym c.in-Bind.is) ∙ c.requires.built))
+
+pub bind-requires-clause-written : goal.bind-requires-clause-written
+bind-requires-clause-written c =
+    let is = ap written_act c.in-Bind.is ∙ ap (λ (bs : List Binding). Bindings (map written_binding bs)) (sym c.items.ensures) in
+    form_places c.args.command.now c.requires.form (map written_binding c.items.result.now) is
 
 pub invariant_of-self : goal.invariant_of-self
 invariant_of-self c =
@@ -25,7 +31,7 @@ invariant_of-self c =
     let o = written_command c.args.command.now in
     let ok = accepts c.args.names.now c.args.limit (session_of p) (session_of c.bind.new.self) o c.bind.result (Bindings (map written_binding c.items.result.now)) is c.bind.ensures.ok in (
       c.bind.ensures.still_goes,
-      stays_printable c.args.names.now c.args.limit (session_of p) (session_of c.bind.new.self) o c.bind.result ok (same_parts c.bind.new.self p c.bind.result c.bind.ensures.err) c.self.invariant.1,
+      stays_printable c.args.names.now c.args.limit (session_of p) (session_of c.bind.new.self) o c.bind.result c.requires.built ok (same_parts c.bind.new.self p c.bind.result c.bind.ensures.err) c.self.invariant.1,
     )
 
 pub invariant_of-self-in-Undo : goal.invariant_of-self-in-Undo
@@ -35,7 +41,7 @@ invariant_of-self-in-Undo c =
     let o = written_command c.args.command.now in
     let ok = accepts c.args.names.now c.args.limit (session_of p) (session_of c.undo.new.self) o c.undo.result (Undo c.from.result) is c.undo.ensures.ok in (
       c.undo.ensures.goes,
-      stays_printable c.args.names.now c.args.limit (session_of p) (session_of c.undo.new.self) o c.undo.result ok (same_parts c.undo.new.self p c.undo.result c.undo.ensures.err) c.self.invariant.1,
+      stays_printable c.args.names.now c.args.limit (session_of p) (session_of c.undo.new.self) o c.undo.result c.requires.built ok (same_parts c.undo.new.self p c.undo.result c.undo.ensures.err) c.self.invariant.1,
     )
 
 pub invariant_of-self-in-Forget : goal.invariant_of-self-in-Forget
@@ -46,7 +52,7 @@ invariant_of-self-in-Forget c =
     let ok = accepts c.args.names.now c.args.limit (session_of p) (session_of c.forget.new.self) o c.forget.result
     (Forget (record { place = c.in-Forget.place; name = c.in-Forget.name })) is c.forget.ensures.ok in (
       c.forget.ensures.goes,
-      stays_printable c.args.names.now c.args.limit (session_of p) (session_of c.forget.new.self) o c.forget.result ok (same_parts c.forget.new.self p c.forget.result c.forget.ensures.err) c.self.invariant.1,
+      stays_printable c.args.names.now c.args.limit (session_of p) (session_of c.forget.new.self) o c.forget.result c.requires.built ok (same_parts c.forget.new.self p c.forget.result c.forget.ensures.err) c.self.invariant.1,
     )
 
 pub returns-in-Bind-clause-ok : goal.returns-in-Bind-clause-ok
@@ -95,17 +101,17 @@ returns-in-Forget-clause-err c =
 pub returns-in-Bind-clause-known : goal.returns-in-Bind-clause-known
 returns-in-Bind-clause-known c =
     outcome_known c.args.names.now c.args.limit c.args.self.now (session_of c.bind.new.self) (written_command c.args.command.now) c.bind.result
-    (λ a. record { refused = false; text = a.text }) (returns-in-Bind-clause-ok c) (returns-in-Bind-clause-err c)
+    (λ a. record { refused = false; text = a.text }) c.requires.built (returns-in-Bind-clause-ok c) (returns-in-Bind-clause-err c)
 
 pub returns-in-Undo-clause-known : goal.returns-in-Undo-clause-known
 returns-in-Undo-clause-known c =
     outcome_known c.args.names.now c.args.limit c.args.self.now (session_of c.undo.new.self) (written_command c.args.command.now) c.undo.result
-    (λ a. record { refused = false; text = a.text }) (returns-in-Undo-clause-ok c) (returns-in-Undo-clause-err c)
+    (λ a. record { refused = false; text = a.text }) c.requires.built (returns-in-Undo-clause-ok c) (returns-in-Undo-clause-err c)
 
 pub returns-in-Forget-clause-known : goal.returns-in-Forget-clause-known
 returns-in-Forget-clause-known c =
     outcome_known c.args.names.now c.args.limit c.args.self.now (session_of c.forget.new.self) (written_command c.args.command.now) c.forget.result
-    (λ a. record { refused = false; text = a.text }) (returns-in-Forget-clause-ok c) (returns-in-Forget-clause-err c)
+    (λ a. record { refused = false; text = a.text }) c.requires.built (returns-in-Forget-clause-ok c) (returns-in-Forget-clause-err c)
 
 pub returns-in-Undo-clause-complete : goal.returns-in-Undo-clause-complete
 returns-in-Undo-clause-complete c =
