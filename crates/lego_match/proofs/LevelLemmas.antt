@@ -79,7 +79,7 @@ module _ (b : CoreBodies) where
   end-shape n t u e = record { reaches = after-shape n t u e.reaches; last = step-shape u ∙ ap (option_map shape) e.last }
 
 -- a sequence has one end
-one_end : {T : Type 0} (f : T → Option T) (t u v : T) (m n : ℕ) → Ends f t m u → Ends f t n v → u ≡ v
+pub one_end : {T : Type 0} (f : T → Option T) (t u v : T) (m n : ℕ) → Ends f t m u → Ends f t n v → u ≡ v
 one_end f t u v m n x y =
     let l = at_most f m n t u x.reaches x.last (v, y.reaches) in
     let r = at_most f n m t v y.reaches y.last (u, x.reaches) in

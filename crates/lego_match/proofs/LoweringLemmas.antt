@@ -1,9 +1,13 @@
 -- What lowering leaves: it undoes lifting, and finds no local where there is none.
-use Rattle.std.proofs.Common.{◌≡◌, ℕ, suc, pred, max, ◌+◌, ◌-◌, ◌<◌, ◌≤◌, nat_lt, if◌then◌else◌, true, false, Option, Some, None, refl, ap, ap₂, sym, ◌∙◌, inl, inr, arith}
+use Rattle.std.proofs.Common.{◌≡◌, ℕ, suc, pred, max, ◌+◌, ◌-◌, ◌<◌, ◌≤◌, nat_lt, if◌then◌else◌, true, false, Option, Some, None, Result, Ok, Err, refl, ap, sym, ◌∙◌, arith}
 use Rattle.std.proofs.lemmas.Bool.Decides.{nat_tests}
 use Rattle.lego_term.specs.Trees.{Core, Var, Const, Prop, Univ, Pi, Lam, App, Sigma, Pair, Fst, Snd, Let, lift, loose}
 use Rattle.lego_term.specs.Sequences.{or_else}
+use Rattle.lego_term.specs.declared.binder.Binder.{Binder}
 use Rattle.lego_match.specs.Answers.{first_below}
+use Rattle.lego_match.specs.private.Lowering.{Lowers}
+use Rattle.lego_match.specs.declared.lowering.Raised.{Raised}
+use Rattle.lego_match.specs.declared.lowering.Raised.TheVariants.{Local, Memory}
 
 none_lifted : (by from i j : ℕ) → j ≡ (if nat_lt i from then i else i + by) → (if nat_lt j from then None else if nat_lt j (from + by) then Some (j - from) else None) ≡ None
 none_lifted by from i j e = grind (arith, nat_tests)
@@ -37,25 +41,49 @@ found_first o p i e = rw e refl
 pub found_second : (o p : Option ℕ) (i : ℕ) → o ≡ None → p ≡ Some i → or_else o p ≡ Some i
 found_second o p i e f = rw (e, f) refl
 
-lifted_index : (from by i : ℕ) → from + by ≤ i → (if nat_lt (i - by) from then i - by else i - by + by) ≡ i
-lifted_index from by i le = grind (arith, nat_tests)
-
-pub lowered_var : (from by i : ℕ) → from + by ≤ i → lift {B = _} {M = _} {L = _} from by (Var (i - by)) ≡ Var i
-lowered_var from by i le = ap Var (lifted_index from by i le)
-
-pub local_found : (from by i : ℕ) → from ≤ i → i - from < by → first_below by from (Var i) ≡ Some (i - from)
-local_found from by i le lt = grind (arith, nat_tests)
-
-raised : (from by i : ℕ) → suc i ≤ from → suc (if nat_lt i from then i else i + by) ≡ suc i
-raised from by i le = grind (arith, nat_tests)
-
-high : (from by i : ℕ) → from < suc i → suc i + by ≤ suc (if nat_lt i from then i else i + by)
-high from by i lt = grind (arith, nat_tests)
+lifted_bound : (from by i : ℕ) → suc i + by ≤ max (from + by) (suc (if nat_lt i from then i else i + by))
+lifted_bound from by i = grind (arith, nat_tests)
 
 -- lifting raises the bound on the loose variables, where it is above the place
-pub lift-high : (from by : ℕ) (t : Core) → from < loose t → loose t + by ≤ loose (lift from by t)
-lift-high from by (Var i) lt = high from by i lt
-lift-high from by (Const k) lt = absurd (omega arith)
-lift-high from by Prop lt = absurd (omega arith)
-lift-high from by (Univ l) lt = absurd (omega arith)
-lift-high from by t lt = ?
+pub lift-bound : (from by : ℕ) (t : Core) → loose t + by ≤ max (from + by) (loose (lift from by t))
+lift-bound from by (Var i) = lifted_bound from by i
+lift-bound from by (Const k) = omega arith
+lift-bound from by Prop = omega arith
+lift-bound from by (Univ l) = omega arith
+lift-bound from by (Pi x a r) = omega (arith, lift-bound from by a, lift-bound (suc from) by r)
+lift-bound from by (Lam x a r) = omega (arith, lift-bound from by a, lift-bound (suc from) by r)
+lift-bound from by (App k m n) = omega (arith, lift-bound from by m, lift-bound from by n)
+lift-bound from by (Sigma x a r) = omega (arith, lift-bound from by a, lift-bound (suc from) by r)
+lift-bound from by (Pair x a r m n) = omega (arith, lift-bound from by a, lift-bound (suc from) by r, lift-bound from by m, lift-bound from by n)
+lift-bound from by (Fst m) = lift-bound from by m
+lift-bound from by (Snd m) = lift-bound from by m
+lift-bound from by (Let x m n) = omega (arith, lift-bound from by m, lift-bound (suc from) by n)
+
+-- a local is found in the second of two parts, where the first one was lowered
+pub second_of_two : (by from after : ℕ) (t whole a r a' : Core) (why : Raised) → whole ≡ t → first_below by from whole ≡ or_else (first_below by from a) (first_below by after r)
+    → lift from by a' ≡ a → Lowers after by r (Err why) → Lowers from by t (Err why)
+second_of_two by from after t whole a r a' (Local i) root e h w =
+    (ap (first_below by from) (sym root) ∙ (e ∙ found_second (first_below by from a) (first_below by after r) i (none_in by from a' a h) w.0), w.1)
+second_of_two by from after t whole a r a' Memory root e h w = tt
+
+-- and in the second, third and fourth part of a pair
+pub second_of_four : (by from : ℕ) (x : Binder) (t a r m n a' : Core) (why : Raised) → Pair x a r m n ≡ t → lift from by a' ≡ a → Lowers (suc from) by r (Err why) → Lowers from by t (Err why)
+second_of_four by from x t a r m n a' (Local i) root h w =
+    (ap (first_below by from) (sym root) ∙ found_second (first_below by from a) _ i (none_in by from a' a h) (found_first (first_below by (suc from) r) _ i w.0), w.1)
+second_of_four by from x t a r m n a' Memory root h w = tt
+
+pub third_of_four : (by from : ℕ) (x : Binder) (t a r m n a' r' : Core) (why : Raised) → Pair x a r m n ≡ t → lift from by a' ≡ a → lift (suc from) by r' ≡ r → Lowers from by m (Err why) → Lowers from by t (Err why)
+third_of_four by from x t a r m n a' r' (Local i) root h k w =
+    (ap (first_below by from) (sym root)
+    ∙ found_second (first_below by from a) _ i (none_in by from a' a h)
+    (found_second (first_below by (suc from) r) _ i (none_in by (suc from) r' r k) (found_first (first_below by from m) _ i w.0)), w.1)
+third_of_four by from x t a r m n a' r' Memory root h k w = tt
+
+pub fourth_of_four : (by from : ℕ) (x : Binder) (t a r m n a' r' m' : Core) (why : Raised) → Pair x a r m n ≡ t → lift from by a' ≡ a → lift (suc from) by r' ≡ r → lift from by m' ≡ m → Lowers from by n (Err why)
+    → Lowers from by t (Err why)
+fourth_of_four by from x t a r m n a' r' m' (Local i) root h k l w =
+    (ap (first_below by from) (sym root)
+    ∙ found_second (first_below by from a) _ i (none_in by from a' a h)
+    (found_second (first_below by (suc from) r) _ i (none_in by (suc from) r' r k)
+    (found_second (first_below by from m) _ i (none_in by from m' m l) w.0)), w.1)
+fourth_of_four by from x t a r m n a' r' m' Memory root h k l w = tt

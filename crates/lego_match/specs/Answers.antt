@@ -13,9 +13,9 @@ use Rattle.lego_match.specs.declared.fault.MatchFault.TheVariants.{Clash, Occurs
 -- under so many locals, the free hole that one of the two is, applied to just its own hypotheses, and the other of the two;
 -- where both are such holes, that with the greater number
 pub data Solves (free : FreeHoles) (locals : ℕ) : Core → Core → ℕ → ℕ → Core → Type 0 where
-  left : {p q : Core} {hole hypotheses : ℕ}
+  of_left : {p q : Core} {hole hypotheses : ℕ}
       → IsApplied free locals p hole hypotheses → ((k n : ℕ) → IsApplied free locals q k n → k < hole) → Solves free locals p q hole hypotheses q
-  right : {p q : Core} {hole hypotheses : ℕ}
+  of_right : {p q : Core} {hole hypotheses : ℕ}
       → IsApplied free locals q hole hypotheses → ((k n : ℕ) → IsApplied free locals p k n → k < hole) → Solves free locals p q hole hypotheses p
 
 -- the loose variable that stands first in the term, left to right, among those below the bound; binders crossed are passed by
