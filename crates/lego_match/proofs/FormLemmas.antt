@@ -74,14 +74,14 @@ module _ (b : CoreBodies) where
     shape : shape_of u ≡ shape_of h
     leaf : shape_of h ≡ None → u ≡ h
     head : head_constant u ≡ head_constant h
-    parts : (j : ℕ) (r : Branch) → slice_get (parts_of u) j ≡ Some r → (l : Branch) × (slice_get (parts_of h) j ≡ Some l) × MayStep l.term r.term
+    parts : (j : ℕ) (r : Branch) → slice_get (parts_of u) j ≡ Some r → (l : Branch) × (slice_get (parts_of h) j ≡ Some l) × MayStep l.term r.term × (l.under ≡ r.under)
 
-  replaced_part : (before behind : List Branch) (l r : Branch) → normal_step b l.term ≡ Some r.term → (j : ℕ) (q : Branch) → slice_get (before ++ r ∷ behind) j ≡ Some q
-      → (m : Branch) × (slice_get (before ++ l ∷ behind) j ≡ Some m) × MayStep m.term q.term
-  replaced_part [] behind l r s zero q e = let z : r ≡ q = cc in (l, refl, inr (s ∙ ap (λ (v : Branch). Some v.term) z))
-  replaced_part [] behind l r s (suc j) q e = (q, e, inl refl)
-  replaced_part (x ∷ before) behind l r s zero q e = (q, e, inl refl)
-  replaced_part (x ∷ before) behind l r s (suc j) q e = replaced_part before behind l r s j q e
+  replaced_part : (before behind : List Branch) (l r : Branch) → normal_step b l.term ≡ Some r.term → l.under ≡ r.under → (j : ℕ) (q : Branch) → slice_get (before ++ r ∷ behind) j ≡ Some q
+      → (m : Branch) × (slice_get (before ++ l ∷ behind) j ≡ Some m) × MayStep m.term q.term × (m.under ≡ q.under)
+  replaced_part [] behind l r s o zero q e = let z : r ≡ q = cc in (l, refl, inr (s ∙ ap (λ (v : Branch). Some v.term) z), o ∙ ap (λ (v : Branch). v.under) z)
+  replaced_part [] behind l r s o (suc j) q e = (q, e, inl refl, refl)
+  replaced_part (x ∷ before) behind l r s o zero q e = (q, e, inl refl, refl)
+  replaced_part (x ∷ before) behind l r s o (suc j) q e = replaced_part before behind l r s o j q e
 
   -- a step of a part that stands in F
   part_steps : (F : Core → Core) (under : Option Binder) (before behind : List Branch) → ((z : Core) → parts_of (F z) ≡ before ++ record { under = under; term = z } ∷ behind)
@@ -94,8 +94,8 @@ module _ (b : CoreBodies) where
         leaf = λ n. absurd (form a n);
         head = head k.0 k.1;
         parts = λ j q y.
-            (let g = replaced_part before behind (record { under = under; term = a }) (record { under = under; term = k.0 }) k.1 j q (subst (λ z. slice_get z j ≡ Some q) (ps k.0) y) in
-            (g.0, subst (λ z. slice_get z j ≡ Some g.0) (sym (ps a)) g.1, g.2));
+            (let g = replaced_part before behind (record { under = under; term = a }) (record { under = under; term = k.0 }) k.1 refl j q (subst (λ z. slice_get z j ≡ Some q) (ps k.0) y) in
+            (g.0, subst (λ z. slice_get z j ≡ Some g.0) (sym (ps a)) g.1, g.2, g.3));
       })
 
   stepped : (h u : Core) → IsHeadForm b h → normal_step b h ≡ Some u → Stepped h u
@@ -160,7 +160,7 @@ module _ (b : CoreBodies) where
     pub shape : shape_of e ≡ shape_of h
     pub leaf : shape_of h ≡ None → e ≡ h
     pub head : head_constant e ≡ head_constant h
-    pub parts : (j : ℕ) (r : Branch) → slice_get (parts_of e) j ≡ Some r → (l : Branch) × (slice_get (parts_of h) j ≡ Some l) × NormalForm b l.term r.term
+    pub parts : (j : ℕ) (r : Branch) → slice_get (parts_of e) j ≡ Some r → (l : Branch) × (slice_get (parts_of h) j ≡ Some l) × NormalForm b l.term r.term × (l.under ≡ r.under)
 
   behind_step : (t u e : Core) → MayStep t u → NormalForm b u e → NormalForm b t e
   behind_step t u e (inl s) n = subst (λ z. NormalForm b z e) (sym s) n
@@ -174,7 +174,7 @@ module _ (b : CoreBodies) where
         shape = refl;
         leaf = λ n. refl;
         head = refl;
-        parts = λ j r y. (r, y, (0, record { reaches = refl; last = parts_end h (ap (normal_step b) same ∙ x.last) j r y }));
+        parts = λ j r y. (r, y, (0, record { reaches = refl; last = parts_end h (ap (normal_step b) same ∙ x.last) j r y }), refl);
       })
   ended_from (suc n) h e stuck x =
       let k = next (normal_step b) n (normal_step b h) e x.reaches in
@@ -187,7 +187,7 @@ module _ (b : CoreBodies) where
         parts = λ j q y.
             (let m = r.parts j q y in
             let l = s.parts j m.0 m.1 in
-            (l.0, l.1, behind_step l.0.term m.0.term q.term l.2 m.2));
+            (l.0, l.1, behind_step l.0.term m.0.term q.term l.2 m.2, l.3 ∙ m.3));
       }
 
   pub ended : (h e : Core) → IsHeadForm b h → NormalForm b h e → Ended h e
@@ -204,3 +204,22 @@ module _ (b : CoreBodies) where
 
   pub before_heads : (i : ℕ) (t h e : Core) → after (head_step b) i t ≡ Some h → NormalForm b h e → NormalForm b t e
   before_heads i t h e a n = (i + n.0, record { reaches = after_add (normal_step b) i n.0 t h e (head_after b i t h a) n.1.reaches; last = n.1.last })
+
+  -- a term with a normal form has a head form, with the same normal form
+  pub head_of_normal : (n : ℕ) (t e : Core) → Ends (normal_step b) t n e → (h : Core) × HeadForm b t h × NormalForm b h e
+  head_of_normal zero t e x =
+      let same : t ≡ e = cc x.reaches in
+      let stuck = end_is_head t (ap (normal_step b) same ∙ x.last) in
+      (t, (0, record { reaches = refl; last = stuck }), (0, x))
+  head_of_normal (suc n) t e x = by_step (head_step b t) refl
+    where
+      by_step : (o : Option Core) → head_step b t ≡ o → (h : Core) × HeadForm b t h × NormalForm b h e
+      by_step None s = (t, (0, record { reaches = refl; last = s }), (suc n, x))
+      by_step (Some u) s =
+          let k = next (normal_step b) n (normal_step b t) e x.reaches in
+          let f = head_first b t u s in
+          let k1 = k.1 in
+          let same : k.0 ≡ u = cc in
+          let r = head_of_normal n k.0 e (record { reaches = k.2; last = x.last }) in
+          let d = subst (λ z. HeadForm b z r.0) same r.1 in
+          (r.0, (suc d.0, record { reaches = ap (option_and_then (after (head_step b) d.0)) s ∙ d.1.reaches; last = d.1.last }), r.2)

@@ -1,6 +1,7 @@
 -- The map of the free holes, and terms that are a free hole applied to just its own hypotheses.
 use Rattle.std.proofs.Common.{◌≡◌, ℕ, suc, ◌+◌, ◌-◌, ◌<◌, ◌≤◌, cond, if◌then◌else◌, nat_eq, Bool, true, false, Option, Some, None, option_and_then, List, [], ◌∷◌, length, get_or, drop, refl, ap, sym, subst, ◌∙◌, arith}
 use Rattle.std.proofs.Common.{length-drop}
+use Rattle.std.specs.Option.{is_some}
 use Rattle.std.specs.Map.{lookup}
 use Rattle.std.specs.Ordering.{nat_cmp, is_eq}
 use Rattle.std.specs.BTreeMap.{BTreeMap, get, is_at}
@@ -46,10 +47,6 @@ more_holes free i d m n lt has h q =
 -- the same head, the same answer
 pub same_free_head : (free : FreeHoles) (t u : Core) → head_constant t ≡ head_constant u → has_free_head free t ≡ has_free_head free u
 same_free_head free t u e = ap (λ o. is_some (option_and_then free o)) e
-  where
-    abbrev is_some : Option ℕ → Bool
-    is_some None = false
-    is_some (Some x) = true
 
 -- a hole applied to just its own hypotheses is one term, marks aside
 record OneMore (locals n : ℕ) (m : Core) (i : ℕ) : Type 0 where
@@ -70,6 +67,9 @@ one_more locals n m i (Some k) c e =
     number h = cc
     same : (x y : ℕ) → nat_eq x y ≡ true → x ≡ y
     same x y h = grind (arith, nat_tests)
+
+unsome : {x y : ℕ} → Some x ≡ Some y → x ≡ y
+unsome e = cc
 
 same_some : {x y z : ℕ} → Some x ≡ Some z → Some y ≡ Some z → x ≡ y
 same_some e f = cc
@@ -101,9 +101,9 @@ one_term locals n k _ _ h h' e e' = cc
 
 pub one_applied : (free : FreeHoles) (locals : ℕ) (p q : Core) (k m n : ℕ) → IsApplied free locals p k m → IsApplied free locals q k n → Agree p q
 one_applied free locals p q k m n x y =
-    let same : n ≡ m = same_some (sym y.is_free ∙ refl) (sym x.is_free) in
+    let same : n ≡ m = unsome (sym y.is_free ∙ x.is_free) in
     one_term locals m k p q x.head y.head x.arguments (subst (λ z. own_arguments locals q ≡ Some z) same y.arguments)
 
 -- the hole of a term and its hypotheses are one
 pub applied_hole_is : (free : FreeHoles) (locals : ℕ) (p : Core) (k m n : ℕ) (h : ℕ) → IsApplied free locals p k m → IsApplied free locals p n h → n ≡ k
-applied_hole_is free locals p k m n h x y = same_some (sym y.head ∙ refl) (sym x.head)
+applied_hole_is free locals p k m n h x y = unsome (sym y.head ∙ x.head)

@@ -6,4 +6,5 @@ pub mod LoweringLemmas
 pub mod ScopeLemmas
 pub mod WalkLemmas
 pub mod PartLemmas
+pub mod NormalLemmas
 pub mod VerdictLemmas

@@ -1,5 +1,5 @@
 -- What lowering leaves: it undoes lifting, and finds no local where there is none.
-use Rattle.std.proofs.Common.{◌≡◌, ℕ, suc, pred, max, ◌+◌, ◌-◌, ◌<◌, ◌≤◌, nat_lt, if◌then◌else◌, true, false, Option, Some, None, Result, Ok, Err, refl, ap, sym, ◌∙◌, arith}
+use Rattle.std.proofs.Common.{◌≡◌, ℕ, suc, pred, max, ◌+◌, ◌-◌, ◌<◌, ◌≤◌, nat_lt, if◌then◌else◌, true, false, Option, Some, None, Result, Ok, Err, refl, ap, sym, subst, ◌∙◌, arith}
 use Rattle.std.proofs.lemmas.Bool.Decides.{nat_tests}
 use Rattle.lego_term.specs.Trees.{Core, Var, Const, Prop, Univ, Pi, Lam, App, Sigma, Pair, Fst, Snd, Let, lift, loose}
 use Rattle.lego_term.specs.Sequences.{or_else}
@@ -66,24 +66,28 @@ second_of_two by from after t whole a r a' (Local i) root e h w =
     (ap (first_below by from) (sym root) ∙ (e ∙ found_second (first_below by from a) (first_below by after r) i (none_in by from a' a h) w.0), w.1)
 second_of_two by from after t whole a r a' Memory root e h w = tt
 
+pub second_bound : (by from under : ℕ) (t whole a r a' : Core) (why : Raised) → under ≡ suc from → whole ≡ t → first_below by from whole ≡ or_else (first_below by from a) (first_below by (suc from) r)
+    → lift from by a' ≡ a → Lowers under by r (Err why) → Lowers from by t (Err why)
+second_bound by from under t whole a r a' why n root e h w = second_of_two by from (suc from) t whole a r a' why root e h (subst (λ z. Lowers z by r (Err why)) n w)
+
 -- and in the second, third and fourth part of a pair
-pub second_of_four : (by from : ℕ) (x : Binder) (t a r m n a' : Core) (why : Raised) → Pair x a r m n ≡ t → lift from by a' ≡ a → Lowers (suc from) by r (Err why) → Lowers from by t (Err why)
-second_of_four by from x t a r m n a' (Local i) root h w =
-    (ap (first_below by from) (sym root) ∙ found_second (first_below by from a) _ i (none_in by from a' a h) (found_first (first_below by (suc from) r) _ i w.0), w.1)
-second_of_four by from x t a r m n a' Memory root h w = tt
+pub second_of_four : (by from under : ℕ) (x : Binder) (t a r m n a' : Core) (why : Raised) → under ≡ suc from → Pair x a r m n ≡ t → lift from by a' ≡ a → Lowers under by r (Err why) → Lowers from by t (Err why)
+second_of_four by from under x t a r m n a' (Local i) s root h w =
+    (ap (first_below by from) (sym root) ∙ found_second (first_below by from a) _ i (none_in by from a' a h) (found_first (first_below by (suc from) r) _ i (subst (λ z. first_below by z r ≡ Some i) s w.0)), w.1)
+second_of_four by from under x t a r m n a' Memory s root h w = tt
 
-pub third_of_four : (by from : ℕ) (x : Binder) (t a r m n a' r' : Core) (why : Raised) → Pair x a r m n ≡ t → lift from by a' ≡ a → lift (suc from) by r' ≡ r → Lowers from by m (Err why) → Lowers from by t (Err why)
-third_of_four by from x t a r m n a' r' (Local i) root h k w =
+pub third_of_four : (by from under : ℕ) (x : Binder) (t a r m n a' r' : Core) (why : Raised) → under ≡ suc from → Pair x a r m n ≡ t → lift from by a' ≡ a → lift under by r' ≡ r → Lowers from by m (Err why) → Lowers from by t (Err why)
+third_of_four by from under x t a r m n a' r' (Local i) s root h k w =
     (ap (first_below by from) (sym root)
     ∙ found_second (first_below by from a) _ i (none_in by from a' a h)
-    (found_second (first_below by (suc from) r) _ i (none_in by (suc from) r' r k) (found_first (first_below by from m) _ i w.0)), w.1)
-third_of_four by from x t a r m n a' r' Memory root h k w = tt
+    (found_second (first_below by (suc from) r) _ i (none_in by (suc from) r' r (subst (λ z. lift z by r' ≡ r) s k)) (found_first (first_below by from m) _ i w.0)), w.1)
+third_of_four by from under x t a r m n a' r' Memory s root h k w = tt
 
-pub fourth_of_four : (by from : ℕ) (x : Binder) (t a r m n a' r' m' : Core) (why : Raised) → Pair x a r m n ≡ t → lift from by a' ≡ a → lift (suc from) by r' ≡ r → lift from by m' ≡ m → Lowers from by n (Err why)
+pub fourth_of_four : (by from under : ℕ) (x : Binder) (t a r m n a' r' m' : Core) (why : Raised) → under ≡ suc from → Pair x a r m n ≡ t → lift from by a' ≡ a → lift under by r' ≡ r → lift from by m' ≡ m → Lowers from by n (Err why)
     → Lowers from by t (Err why)
-fourth_of_four by from x t a r m n a' r' m' (Local i) root h k l w =
+fourth_of_four by from under x t a r m n a' r' m' (Local i) s root h k l w =
     (ap (first_below by from) (sym root)
     ∙ found_second (first_below by from a) _ i (none_in by from a' a h)
-    (found_second (first_below by (suc from) r) _ i (none_in by (suc from) r' r k)
+    (found_second (first_below by (suc from) r) _ i (none_in by (suc from) r' r (subst (λ z. lift z by r' ≡ r) s k))
     (found_second (first_below by from m) _ i (none_in by from m' m l) w.0)), w.1)
-fourth_of_four by from x t a r m n a' r' m' Memory root h k l w = tt
+fourth_of_four by from under x t a r m n a' r' m' Memory s root h k l w = tt

@@ -80,7 +80,7 @@ above (Let x m n) s (suc zero) p f e = let o : Some x ≡ p.under = cc in let z 
 above _ _ _ p f e = cc
 
 pub inside-length : (o : Option Binder) (xs : List Binder) → length (inside o xs) ≡ length (inside o []) + length xs
-inside-length None xs = refl
+inside-length None xs = omega arith
 inside-length (Some x) xs = omega arith
 
 -- the pair's loose variables

@@ -9,7 +9,7 @@ use Rattle.lego_laws.specs.Parallel.{CoreBodies}
 use Rattle.lego_laws.specs.HeadForms.{IsHeadForm}
 use Rattle.lego_laws.specs.Counting.{HasSteps}
 use Rattle.lego_laws.proofs.After.{after_add}
-use Rattle.lego_laws.proofs.Counted.{head_after, head_counted, parts_counted}
+use Rattle.lego_laws.proofs.Counted.{head_after, head_counted, parts_steps_are_counted}
 use Rattle.lego_reduce.specs.declared.fault.ReduceFault.{ReduceFault}
 use Rattle.lego_reduce.specs.declared.fault.ReduceFault.TheVariants as reduce
 use Rattle.lego_reduce.specs.Reduction.{Reduces}
@@ -18,7 +18,7 @@ use Rattle.lego_match.specs.Holes.{FreeHoles, has_free_head}
 use Rattle.lego_match.specs.Pairs.{AgreeIn, Corresponds, here, turn}
 use Rattle.lego_match.specs.private.Codes.{agree_at_root}
 use Rattle.lego_match.specs.private.Faults.{stop_of}
-use Rattle.lego_match.specs.private.Walks.{AllAgree, HasLowVariables, EndsHere, EndsApart, Walks, PartsWalk, StopsBy, Settles, Decides, Heads}
+use Rattle.lego_match.specs.private.Walks.{AllAgree, HasLowVariables, GoesOn, EndsHere, EndsApart, Walks, PartsWalk, StopsBy, Settles, Decides, Heads}
 use Rattle.lego_match.specs.declared.stop.Stop.{Stop}
 use Rattle.lego_match.specs.declared.stop.Stop.TheVariants.{Apart, Budget, Whole, Memory}
 use Rattle.lego_match.specs.declared.walk.Position.{Position}
@@ -79,16 +79,12 @@ module _ (b : CoreBodies) where
   right_end_fails h k p at i reduce.Memory n x le r = tt
 
   module _ (free : FreeHoles) where
-    -- why a walk ends at two head forms: a free hole at a head, or roots that differ
-    abbrev pub EndsAt : Core → Core → Type 0
-    EndsAt h k = IsFalse (has_free_head free h) → IsFalse (has_free_head free k) → agree_at_root h k ≡ true → ⊥
-
-    ends_here : (h k p q : Core) → IsHeadForm b h → Ended b h p → Ended b k q → EndsAt h k → EndsHere free p q
+    ends_here : (h k p q : Core) → IsHeadForm b h → Ended b h p → Ended b k q → (GoesOn free h k → ⊥) → EndsHere free p q
     ends_here h k p q s l r why fp fq f e e' =
-        why (sym (same_free_head free p h l.head) ∙ fp) (sym (same_free_head free q k r.head) ∙ fq)
-        (shapes_agree h k f (sym l.shape ∙ e) (sym r.shape ∙ e') (λ y. no_local h s (sym l.shape ∙ (e ∙ ap Some y))))
+        why (sym (same_free_head free p h l.head) ∙ fp, sym (same_free_head free q k r.head) ∙ fq,
+        shapes_agree h k f (sym l.shape ∙ e) (sym r.shape ∙ e') (λ y. no_local h s (sym l.shape ∙ (e ∙ ap Some y))))
 
-    pub settled : (h k : Core) (at : Position) (old : List Binder) (result : Result ℕ Stop) → IsHeadForm b h → IsHeadForm b k → EndsAt h k → Settles b h k at result → Walks b free h k at old old result
+    pub settled : (h k : Core) (at : Position) (old : List Binder) (result : Result ℕ Stop) → IsHeadForm b h → IsHeadForm b k → (GoesOn free h k → ⊥) → Settles b h k at result → Walks b free h k at old old result
     settled h k at old (Ok steps) s s' why w =
         record { agreed = w.agreed; kept = refl; left = w.left; right = w.right; left_has = w.left_has; right_has = w.right_has; sum = w.sum; within = w.within }
     settled h k at old (Err (Apart p q)) s s' why w =
@@ -112,14 +108,14 @@ module _ (b : CoreBodies) where
           kept = w.kept;
           left = w.left;
           right = w.right;
-          left_has = parts_counted b h s w.left_has;
-          right_has = parts_counted b k s' w.right_has;
+          left_has = parts_steps_are_counted b h w.left s w.left_has;
+          right_has = parts_steps_are_counted b k w.right s' w.right_has;
           sum = w.sum;
           within = w.within;
         }
     through_parts h k at old new (Err (Apart p q)) s s' e w = w
     through_parts h k at old new (Err Budget) s s' e w =
-        record { left = w.left; right = w.right; left_has = parts_counted b h s w.left_has; right_has = parts_counted b k s' w.right_has; over = w.over }
+        record { left = w.left; right = w.right; left_has = parts_steps_are_counted b h w.left s w.left_has; right_has = parts_steps_are_counted b k w.right s' w.right_has; over = w.over }
     through_parts h k at old new (Err Whole) s s' e w = w
     through_parts h k at old new (Err Memory) s s' e w = tt
 

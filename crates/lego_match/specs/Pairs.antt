@@ -31,3 +31,9 @@ pub data Corresponds (b : CoreBodies) (free : FreeHoles) : Core → Core → Lis
       → HeadForm b t h → HeadForm b u k → IsFalse (has_free_head free h) → IsFalse (has_free_head free k)
       → shape_of h ≡ Some s → shape_of k ≡ Some s → slice_get (parts_of h) i ≡ Some l → slice_get (parts_of k) i ≡ Some r
       → AgreeBefore b i h k → Corresponds b free l.term r.term xs p q → Corresponds b free t u (inside l.under xs) p q
+
+-- the corresponding pair of two terms is that of their normal forms, where both have one
+abbrev pub PairsAreOfNormalForms : Type 0
+PairsAreOfNormalForms =
+    (b : CoreBodies) (free : FreeHoles) (t u p q t' u' : Core) (xs : List Binder)
+    → Corresponds b free t u xs p q → NormalForm b t t' → NormalForm b u u' → Corresponds b free t' u' xs p q

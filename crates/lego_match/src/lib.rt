@@ -13,4 +13,4 @@ mod walk;
 
 pub use answer::Candidate;
 pub use fault::MatchFault;
-pub use matching::candidate;
+pub use matching::{candidate, pairs_are_of_normal_forms};

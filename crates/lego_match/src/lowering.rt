@@ -37,7 +37,6 @@ impl From<TermFault> for Raised {
 /// binder, or finds the first variable, left to right, that stands between `from` and it.
 pub(crate) fn lowered(alloc: Global, t: &Term, from: u32, by: u32) -> Result<Term, Raised>
     requires room { loose t.now + depth t.now ≤ 65536 }
-    requires binders { from + depth t.now ≤ 2001 }
     requires past { by < 2 ^ 31 }
     ensures { Lowers from by t.now result }
 {

@@ -1,15 +1,15 @@
 //! The candidate that two terms determine.
-ghost use Rattle.std.specs.Prelude.{◌≡◌, ◌+◌, ◌≤◌, ◌<◌, List as Sequence, length, IfOk, IfErr, IfSome, IfNone};
+ghost use Rattle.std.specs.Prelude.{◌≡◌, ◌+◌, ◌≤◌, ◌<◌, length, IfOk, IfErr, IfSome, IfNone};
 ghost use Rattle.std.specs.Ordering.{nat_cmp};
 ghost use Rattle.std.specs.BTreeMap.{get};
 ghost use Rattle.lego_term.specs.Trees.{loose};
 ghost use Rattle.lego_term.specs.BodyMap.{bodies_in, AreClosed};
 ghost use Rattle.lego_match.specs.Agreement.{Agree};
 ghost use Rattle.lego_match.specs.Holes.{listed};
-ghost use Rattle.lego_match.specs.Pairs.{AgreeIn};
-ghost use Rattle.lego_match.specs.Answers.{IsCandidate, IsRefusedBy, Solves};
-ghost use Rattle.lego_match.specs.private.Walks.{HasLowVariables, EndsHere};
-ghost use Rattle.lego_match.specs.private.Verdicts.{IsAnswer, IsVerdict, IsSolution, IsUnsolved};
+ghost use Rattle.lego_match.specs.Pairs.{AgreeIn, PairsAreOfNormalForms};
+ghost use Rattle.lego_match.specs.Answers.{IsCandidate, IsRefusedBy};
+ghost use Rattle.lego_match.specs.private.Walks.{IsNormal, HasLowVariables, EndsHere};
+ghost use Rattle.lego_match.specs.private.Verdicts.{IsAnswer, IsNormalAnswer, IsVerdict, IsSolution, IsUnsolved};
 
 use crate::answer::Candidate;
 use crate::fault::MatchFault;
@@ -53,24 +53,43 @@ pub fn candidate(
         bodies: ctx_bodies,
         free: &free,
     };
+    matched(&setting, depth, a, b, limit)
+}
+
+/// The same by the walk through head forms.
+fn matched(
+    setting: &Setting<'_>,
+    depth: u32,
+    a: &Term,
+    b: &Term,
+    limit: u64,
+) -> Result<Option<Candidate>, MatchFault>
+    requires locals { depth ≤ 65536 }
+    requires left { loose a.now ≤ 63536 }
+    requires right { loose b.now ≤ 63536 }
+    requires left_scoped { loose a.now ≤ depth }
+    requires right_scoped { loose b.now ≤ depth }
+    requires closed { AreClosed setting.now.bodies.now }
+    ensures { IsAnswer (bodies_in setting.now.bodies.now) (get nat_cmp setting.now.free.now) depth a.now b.now limit result }
+{
     let at = Position {
         room: MAX_DEPTH + 1,
         limit,
         are_normal: false,
         are_head_forms: false,
     };
-    let mut deeper = Vec::new(alloc);
-    match walk(&setting, a, b, at, &mut deeper) {
+    let mut deeper = Vec::new(setting.alloc);
+    match walk(setting, a, b, at, &mut deeper) {
         Ok(_) => Ok(None),
-        Err(Stop::Apart { left, right }) => verdict(&setting, depth, left, right, deeper),
+        Err(Stop::Apart { left, right }) => verdict(setting, depth, left, right, deeper),
         Err(Stop::Budget) => Err(MatchFault::Budget),
-        Err(Stop::Whole) => of_normal_forms(&setting, depth, a, b, limit),
+        Err(Stop::Whole) => whole_matched(setting, depth, a, b, limit),
         Err(Stop::Memory) => Err(MatchFault::Memory),
     }
 }
 
 /// The same by the whole normal forms, where a walk by parts can't go on.
-fn of_normal_forms(
+fn whole_matched(
     setting: &Setting<'_>,
     depth: u32,
     a: &Term,
@@ -87,6 +106,28 @@ fn of_normal_forms(
 {
     let left = normal(setting.alloc, setting.bodies, a, limit)?;
     let right = normal(setting.alloc, setting.bodies, b, limit - left.steps)?;
+    normal_matched(setting, depth, &left.term, &right.term)
+}
+
+/// The same for two normal forms.
+fn normal_matched(
+    setting: &Setting<'_>,
+    depth: u32,
+    a: &Term,
+    b: &Term,
+) -> Result<Option<Candidate>, MatchFault>
+    requires locals { depth ≤ 65536 }
+    requires left { loose a.now ≤ 63536 }
+    requires right { loose b.now ≤ 63536 }
+    requires left_scoped { loose a.now ≤ depth }
+    requires right_scoped { loose b.now ≤ depth }
+    requires closed { AreClosed setting.now.bodies.now }
+    requires left_normal { IsNormal (bodies_in setting.now.bodies.now) a.now }
+    requires right_normal { IsNormal (bodies_in setting.now.bodies.now) b.now }
+    ensures { IsNormalAnswer (bodies_in setting.now.bodies.now) (get nat_cmp setting.now.free.now) depth a.now b.now result }
+{
+    let _left = a.depth();
+    let _right = b.depth();
     let at = Position {
         room: MAX_DEPTH + 1,
         limit: 0,
@@ -94,10 +135,11 @@ fn of_normal_forms(
         are_head_forms: false,
     };
     let mut deeper = Vec::new(setting.alloc);
-    match walk(setting, &left.term, &right.term, at, &mut deeper) {
+    match walk(setting, a, b, at, &mut deeper) {
         Ok(_) => Ok(None),
         Err(Stop::Apart { left, right }) => verdict(setting, depth, left, right, deeper),
-        Err(Stop::Budget) | Err(Stop::Whole) => unreachable!(),
+        Err(Stop::Budget) => unreachable!(),
+        Err(Stop::Whole) => unreachable!(),
         Err(Stop::Memory) => Err(MatchFault::Memory),
     }
 }
@@ -123,8 +165,13 @@ fn verdict(
     let of_left = applied_hole(setting.free, &left, locals);
     let of_right = applied_hole(setting.free, &right, locals);
     match (of_left, of_right) {
-        (Some(l), Some(r)) if l.number < r.number => solution(setting, r, &left, locals, deeper),
-        (Some(hole), _) => solution(setting, hole, &right, locals, deeper),
+        (Some(l), Some(r)) => {
+            if l.number < r.number {
+                return solution(setting, r, &left, locals, deeper);
+            }
+            solution(setting, l, &right, locals, deeper)
+        }
+        (Some(hole), None) => solution(setting, hole, &right, locals, deeper),
         (None, Some(hole)) => solution(setting, hole, &left, locals, deeper),
         (None, None) => Err(unsolved(setting, left, right, deeper)),
     }
@@ -186,3 +233,8 @@ fn unsolved(
         }
     }
 }
+
+/// The corresponding pair of two terms is that of their normal forms, where both have one.
+pub fn pairs_are_of_normal_forms()
+    ensures { PairsAreOfNormalForms }
+{}

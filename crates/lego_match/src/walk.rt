@@ -1,6 +1,6 @@
 //! The walk through the head forms of two terms, and then through their parts, left to right, to
 //! the first parts that don't agree.
-ghost use Rattle.std.specs.Prelude.{◌≡◌, ◌+◌, ◌-◌, ◌≤◌, ◌<◌, true, IsTrue, IsFalse, IfOk, Option, None};
+ghost use Rattle.std.specs.Prelude.{◌≡◌, ◌+◌, ◌-◌, ◌≤◌, ◌<◌, true, false, IsFalse, IfOk};
 ghost use Rattle.std.specs.Ordering.{nat_cmp};
 ghost use Rattle.std.specs.BTreeMap.{get};
 ghost use Rattle.lego_term.specs.Trees.{loose, depth};
@@ -9,8 +9,8 @@ ghost use Rattle.lego_term.specs.BodyMap.{bodies_in, AreClosed};
 ghost use Rattle.lego_laws.specs.HeadForms.{IsHeadForm};
 ghost use Rattle.lego_match.specs.Holes.{has_free_head as is_free_head};
 ghost use Rattle.lego_match.specs.Pairs.{AgreeBefore};
-ghost use Rattle.lego_match.specs.private.Codes.{agree_at_root as roots_agree, position_inside};
-ghost use Rattle.lego_match.specs.private.Walks.{IsNormal, Walks, PartWalks, PartsWalk, Settles, Decides, Heads};
+ghost use Rattle.lego_match.specs.private.Codes.{position_inside};
+ghost use Rattle.lego_match.specs.private.Walks.{IsNormal, GoesOn, Walks, PartWalks, PartsWalk, Settles, Decides, Heads};
 
 use crate::agreement::{agree, agree_at_root};
 use crate::holes::has_free_head;
@@ -72,7 +72,10 @@ pub(crate) fn walk(
     if at.room == 0 {
         return Err(Stop::Whole);
     }
-    if at.are_normal || at.are_head_forms {
+    if at.are_normal {
+        return forms(setting, a, b, at, deeper);
+    }
+    if at.are_head_forms {
         return forms(setting, a, b, at, deeper);
     }
     let left = head_of(setting, a, at.limit)?;
@@ -118,13 +121,27 @@ fn forms(
     requires right_normal { at.are_normal ≡ true → IsNormal (bodies_in setting.now.bodies.now) b.now × depth b.now < at.room }
     ensures { Walks (bodies_in setting.now.bodies.now) (get nat_cmp setting.now.free.now) a.now b.now at deeper.old.items deeper.new.items result }
 {
-    if !at.are_head_forms && (has_free_head(setting.free, a) || has_free_head(setting.free, b)) {
-        return ends(setting, a, b, at);
+    if goes_on(setting, a, b, at) {
+        return parts_from(setting, a, b, 0, at, deeper);
     }
+    ends(setting, a, b, at)
+}
+
+/// Whether the walk goes on into the parts of two head forms: they agree at the root, and no free
+/// hole stands at a head.
+fn goes_on(setting: &Setting<'_>, a: &Term, b: &Term, at: Position) -> bool
+    requires left_head { at.are_head_forms ≡ true → IsFalse (is_free_head (get nat_cmp setting.now.free.now) a.now) }
+    requires right_head { at.are_head_forms ≡ true → IsFalse (is_free_head (get nat_cmp setting.now.free.now) b.now) }
+    ensures yes { result ≡ true → GoesOn (get nat_cmp setting.now.free.now) a.now b.now }
+    ensures no { result ≡ false → GoesOn (get nat_cmp setting.now.free.now) a.now b.now → ⊥ }
+{
     if !agree_at_root(a, b) {
-        return ends(setting, a, b, at);
+        return false;
     }
-    parts_from(setting, a, b, 0, at, deeper)
+    if at.are_head_forms {
+        return true;
+    }
+    !has_free_head(setting.free, a) && !has_free_head(setting.free, b)
 }
 
 /// The normal forms of two head forms: whether they agree, in how many steps they are made.
@@ -193,7 +210,7 @@ fn parts_from(
         return Ok(0);
     };
     let inside = inside(at, a, number);
-    let steps = part(setting, left.under, left.term, right.term, inside, deeper)?;
+    let steps = walk_part(setting, left.under, left.term, right.term, inside, deeper)?;
     let rest = Position {
         limit: at.limit - steps,
         ..at
@@ -204,7 +221,7 @@ fn parts_from(
 
 /// The same for two parts, of which the left one stands under this binder, if any.
 #[cycle(walk)]
-fn part(
+fn walk_part(
     setting: &Setting<'_>,
     under: Option<Binder>,
     a: &Term,

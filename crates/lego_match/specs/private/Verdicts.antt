@@ -47,3 +47,14 @@ abbrev pub IsAnswer : CoreBodies → FreeHoles → ℕ → Core → Core → ℕ
 IsAnswer b free locals t u limit (Ok (Some c)) = IsCandidate b free locals t u c.hole c.body
 IsAnswer b free locals t u limit (Ok None) = AgreeIn b t u
 IsAnswer b free locals t u limit (Err fault) = IsRefusedBy b free locals t u limit fault
+
+-- the answer for two normal forms, for which no limit counts
+abbrev pub IsNormalAnswer : CoreBodies → FreeHoles → ℕ → Core → Core → Result (Option Candidate) MatchFault → Type 0
+IsNormalAnswer b free locals t u (Err Budget) = ⊥
+IsNormalAnswer b free locals t u (Err (TooLarge nodes levels)) = ⊥
+IsNormalAnswer b free locals t u (Err (Clash left right ys)) = IsAnswer b free locals t u 0 (Err (Clash left right ys))
+IsNormalAnswer b free locals t u (Err (Occurs k)) = IsAnswer b free locals t u 0 (Err (Occurs k))
+IsNormalAnswer b free locals t u (Err (Scope k i ys)) = IsAnswer b free locals t u 0 (Err (Scope k i ys))
+IsNormalAnswer b free locals t u (Err (HigherOrder left right ys)) = IsAnswer b free locals t u 0 (Err (HigherOrder left right ys))
+IsNormalAnswer b free locals t u (Err Memory) = Unit {0}
+IsNormalAnswer b free locals t u (Ok found) = IsAnswer b free locals t u 0 (Ok found)

@@ -12,6 +12,7 @@ use Rattle.lego_reduce.specs.Reduction.{Reduces}
 use Rattle.lego_match.specs.Agreement.{Agree}
 use Rattle.lego_match.specs.Holes.{FreeHoles, has_free_head}
 use Rattle.lego_match.specs.Pairs.{AgreeIn, Corresponds, inside}
+use Rattle.lego_match.specs.private.Codes.{agree_at_root}
 use Rattle.lego_match.specs.private.Faults.{stop_of}
 use Rattle.lego_match.specs.declared.walk.Position.{Position}
 use Rattle.lego_match.specs.declared.stop.Stop.{Stop}
@@ -47,6 +48,10 @@ pub record TooMany (Left Right : ℕ → Type 0) (limit : ℕ) : Type 0 where
 -- no variable of the term, however deep it stands, is above those that a term may be made with
 abbrev pub HasLowVariables : Core → Type 0
 HasLowVariables t = loose t + depth t ≤ 65536
+
+-- no free hole stands at the head of either, and they agree but for their parts
+abbrev pub GoesOn : FreeHoles → Core → Core → Type 0
+GoesOn free h k = IsFalse (has_free_head free h) × IsFalse (has_free_head free k) × (agree_at_root h k ≡ true)
 
 -- a free hole stands at the head of one of the two, or they haven't one form with parts
 abbrev pub EndsHere : FreeHoles → Core → Core → Type 0

@@ -1,8 +1,8 @@
 use Rattle.std.proofs.Common.{◌+◌, ◌-◌, ◌*◌}
 use Rattle.lego_match.proofs.walk.+walk.Given as goal
 
-abbrev pub decreases-part : goal.decreases-part
-decreases-part l = 8 * l.at.room + 7
+abbrev pub decreases-walk_part : goal.decreases-walk_part
+decreases-walk_part l = 8 * l.at.room + 7
 
 abbrev pub decreases-walk : goal.decreases-walk
 decreases-walk l = 8 * l.at.room + 6
