@@ -6,11 +6,12 @@ use Rattle.lego_term.specs.Parts.{Shape, shape_of, Branch, parts_of}
 use Rattle.lego_term.specs.Sequences.{head_step, normal_step, after, Ends, HeadForm, NormalForm}
 use Rattle.lego_laws.specs.Parallel.{CoreBodies}
 use Rattle.lego_laws.specs.HeadForms.{IsHeadForm}
+use Rattle.lego_laws.proofs.After.{at_most}
 use Rattle.lego_laws.proofs.Counted.{head_after}
 use Rattle.lego_match.specs.Agreement.{Agree}
 use Rattle.lego_match.specs.Holes.{FreeHoles, has_free_head}
 use Rattle.lego_match.specs.Pairs.{AgreeIn, AgreeBefore, inside, Corresponds, here, turn, PairsAreOfNormalForms}
-use Rattle.lego_match.proofs.FormLemmas.{Ended, ended, behind_heads, before_heads, end_is_head, head_of_normal}
+use Rattle.lego_match.proofs.FormLemmas.{Ended, ended, behind_heads, end_is_head, head_of_normal}
 use Rattle.lego_match.proofs.HoleLemmas.{same_free_head}
 use Rattle.lego_match.proofs.LevelLemmas.{one_end}
 
@@ -73,11 +74,13 @@ module _ (b : CoreBodies) where
 
   -- a normal form is its own head form
   normal_head : (t h : Core) → normal_step b t ≡ None → HeadForm b t h → h ≡ t
-  normal_head t h e (zero, x) = let z = x.reaches in cc
-  normal_head t h e (suc n, x) = let z = head_after b (suc n) t h x.reaches in absurd (no_step z)
-    where
-      no_step : after (normal_step b) (suc n) t ≡ Some h → ⊥
-      no_step z = let w : option_and_then (after (normal_step b) n) None ≡ Some h = subst (λ o. option_and_then (after (normal_step b) n) o ≡ Some h) e z in cc w
+  normal_head t h e p =
+      let a = head_after b p.0 t h p.1.reaches in
+      let l = at_most (normal_step b) 0 p.0 t t refl e (h, a) in
+      let none : p.0 ≡ 0 = omega arith in
+      let r : after (normal_step b) 0 t ≡ Some h = subst (λ n. after (normal_step b) n t ≡ Some h) none a in
+      let same : t ≡ h = cc r in
+      sym same
 
   module _ (free : FreeHoles) where
     same_head : (h e : Core) → Ended b h e → IsFalse (has_free_head free h) → IsFalse (has_free_head free e)
@@ -89,7 +92,7 @@ module _ (b : CoreBodies) where
     -- the pair of two normal forms is that of the terms
     pub pair_of_terms : {e f p q : Core} {xs : List Binder} → Corresponds b free e f xs p q → (t u : Core) → NormalForm b t e → NormalForm b u f → Corresponds b free t u xs p q
     pair_of_terms (here {t = e} {u = f} {p = p} {q = q} m n d) t u x y =
-        rw (← one_normal e e p (itself t e x) m, ← one_normal f f q (itself u f y) n) (here x y (λ a. d (rw (← one_normal e e p (itself t e x) m, ← one_normal f f q (itself u f y) n) a)))
+        here (subst (λ z. NormalForm b t z) (one_normal e e p (itself t e x) m) x) (subst (λ z. NormalForm b u z) (one_normal f f q (itself u f y) n) y) d
     pair_of_terms (turn {t = e} {u = f} {h = h} {k = k} {p = p} {q = q} {s = s} {l = l} {r = r} {xs = xs} i m n fh fk sh sk lx rx before c) t u x y =
         let eh = normal_head e h x.1.last m in
         let ek = normal_head f k y.1.last n in
@@ -108,7 +111,7 @@ module _ (b : CoreBodies) where
     -- and the other way round
     pub pair_of_normal : {t u p q : Core} {xs : List Binder} → Corresponds b free t u xs p q → (e f : Core) → NormalForm b t e → NormalForm b u f → Corresponds b free e f xs p q
     pair_of_normal (here {t = t} {u = u} {p = p} {q = q} m n d) e f x y =
-        rw (one_normal t e p x m, one_normal u f q y n) (here (itself t p m) (itself u q n) d)
+        here (subst (λ z. NormalForm b z p) (one_normal t p e m x) (itself t p m)) (subst (λ z. NormalForm b z q) (one_normal u q f n y) (itself u q n)) d
     pair_of_normal (turn {t = t} {u = u} {h = h} {k = k} {p = p} {q = q} {s = s} {l = l} {r = r} {xs = xs} i m n fh fk sh sk lx rx before c) e f x y =
         let d = ended b h e m.1.last (behind_heads b m.0 t h e m.1.reaches x) in
         let g = ended b k f n.1.last (behind_heads b n.0 u k f n.1.reaches y) in
