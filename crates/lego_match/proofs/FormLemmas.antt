@@ -1,7 +1,6 @@
 -- What the normalisation sequence leaves of a head form: its form, its head and the places of its parts.
-use Rattle.std.proofs.Common.{◌≡◌, ℕ, zero, suc, ◌+◌, ◌-◌, ◌≤◌, Option, Some, None, option_map, option_and_then, List, [], ◌∷◌, ◌++◌, slice_get, ◌⊎◌, inl, inr, refl, sym, ap, ◌∙◌, subst, arith}
+use Rattle.std.proofs.Common.{◌≡◌, ℕ, zero, suc, ◌+◌, ◌-◌, Option, Some, None, option_map, option_and_then, List, [], ◌∷◌, ◌++◌, slice_get, ◌⊎◌, inl, inr, refl, sym, ap, ◌∙◌, subst, arith}
 use Rattle.lego_term.specs.declared.binder.Binder.{Binder}
-use Rattle.lego_term.specs.declared.binder.Mark.{Mark}
 use Rattle.lego_term.specs.Trees.{Core, Var, Const, Prop, Univ, Pi, Lam, App, Sigma, Pair, Fst, Snd, Let}
 use Rattle.lego_term.specs.Parts.{shape_of, Branch, plain_part, bound_part, parts_of, head_constant}
 use Rattle.lego_term.specs.Sequences.{or_else, head_step, normal_step, after, Ends, HeadForm, NormalForm}
@@ -211,15 +210,14 @@ module _ (b : CoreBodies) where
       let same : t ≡ e = cc x.reaches in
       let stuck = end_is_head t (ap (normal_step b) same ∙ x.last) in
       (t, (0, record { reaches = refl; last = stuck }), (0, x))
-  head_of_normal (suc n) t e x = by_step (head_step b t) refl
+  head_of_normal (suc n) t e x = by_step (λ u y. head_of_normal n u e y) (head_step b t) refl
     where
-      by_step : (o : Option Core) → head_step b t ≡ o → (h : Core) × HeadForm b t h × NormalForm b h e
-      by_step None s = (t, (0, record { reaches = refl; last = s }), (suc n, x))
-      by_step (Some u) s =
+      by_step : ((u : Core) → Ends (normal_step b) u n e → (h : Core) × HeadForm b u h × NormalForm b h e) → (o : Option Core) → head_step b t ≡ o → (h : Core) × HeadForm b t h × NormalForm b h e
+      by_step go None s = (t, (0, record { reaches = refl; last = s }), (suc n, x))
+      by_step go (Some u) s =
           let k = next (normal_step b) n (normal_step b t) e x.reaches in
           let f = head_first b t u s in
           let k1 = k.1 in
           let same : k.0 ≡ u = cc in
-          let r = head_of_normal n k.0 e (record { reaches = k.2; last = x.last }) in
-          let d = subst (λ z. HeadForm b z r.0) same r.1 in
-          (r.0, (suc d.0, record { reaches = ap (option_and_then (after (head_step b) d.0)) s ∙ d.1.reaches; last = d.1.last }), r.2)
+          let r = go u (subst (λ z. Ends (normal_step b) z n e) same (record { reaches = k.2; last = x.last })) in
+          (r.0, (suc r.1.0, record { reaches = ap (option_and_then (after (head_step b) r.1.0)) s ∙ r.1.1.reaches; last = r.1.1.last }), r.2)

@@ -1,13 +1,11 @@
 -- The map of the free holes, and terms that are a free hole applied to just its own hypotheses.
-use Rattle.std.proofs.Common.{◌≡◌, ℕ, suc, ◌+◌, ◌-◌, ◌<◌, ◌≤◌, cond, if◌then◌else◌, nat_eq, Bool, true, false, Option, Some, None, option_and_then, List, [], ◌∷◌, length, get_or, drop, refl, ap, sym, subst, ◌∙◌, arith}
-use Rattle.std.proofs.Common.{length-drop}
+use Rattle.std.proofs.Common.{◌≡◌, ℕ, suc, ◌+◌, ◌-◌, ◌<◌, ◌≤◌, cond, if◌then◌else◌, nat_eq, true, false, Option, Some, None, option_and_then, List, [], ◌∷◌, length, get_or, drop, refl, ap, sym, subst, ◌∙◌, arith}
 use Rattle.std.specs.Option.{is_some}
 use Rattle.std.specs.Map.{lookup}
 use Rattle.std.specs.Ordering.{nat_cmp, is_eq}
 use Rattle.std.specs.BTreeMap.{BTreeMap, get, is_at}
 use Rattle.std.proofs.lemmas.List.{drop_more, drop_all}
 use Rattle.std.proofs.lemmas.Bool.Decides.{nat_tests}
-use Rattle.lego_term.specs.declared.binder.Mark.{Mark}
 use Rattle.lego_term.specs.Trees.{Core, Var, Const, App}
 use Rattle.lego_term.specs.Parts.{head_constant, own_arguments}
 use Rattle.lego_match.specs.Agreement.{Agree}
@@ -65,6 +63,7 @@ one_more locals n m i (Some k) c e =
   where
     number : {x y : ℕ} → Some x ≡ Some y → y ≡ x
     number h = cc
+
     same : (x y : ℕ) → nat_eq x y ≡ true → x ≡ y
     same x y h = grind (arith, nat_tests)
 

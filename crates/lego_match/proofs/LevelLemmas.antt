@@ -1,13 +1,13 @@
 -- Terms that are equal but for levels have normal forms that are equal but for levels.
-use Rattle.std.proofs.Common.{◌≡◌, ℕ, zero, suc, ◌≤◌, Option, Some, None, option_map, option_and_then, refl, sym, ap, ap₂, ◌∙◌, subst, arith}
+use Rattle.std.proofs.Common.{◌≡◌, ℕ, zero, suc, Option, Some, None, option_map, option_and_then, refl, sym, ap, ap₂, ◌∙◌, subst, arith}
 use Rattle.lego_term.specs.declared.binder.Binder.{Binder}
 use Rattle.lego_term.specs.declared.binder.Mark.{Mark}
 use Rattle.lego_term.specs.declared.level.Level.{Level}
-use Rattle.lego_term.specs.Trees.{Tree, Core, Var, Const, Prop, Univ, Pi, Lam, App, Sigma, Pair, Fst, Snd, Let, Bodies, map_tree, shape, EqualButLevels}
-use Rattle.lego_term.specs.Sequences.{or_else, head_step, normal_step, after, Ends, NormalForm}
+use Rattle.lego_term.specs.Trees.{Tree, Core, Var, Const, Prop, Univ, Pi, Lam, App, Sigma, Pair, Fst, Snd, Let, Bodies, shape, EqualButLevels}
+use Rattle.lego_term.specs.Sequences.{or_else, head_step, normal_step, after, Ends}
 use Rattle.lego_laws.specs.Parallel.{CoreBodies}
 use Rattle.lego_laws.proofs.After.{next, at_most}
-use Rattle.lego_laws.proofs.Mapping.{mapped_bodies, head_step-map, map-instantiate}
+use Rattle.lego_laws.proofs.Mapping.{mapped_bodies, head_step-map}
 use Rattle.lego_match.specs.Pairs.{AgreeIn}
 use Rattle.lego_match.proofs.AgreementLemmas.{levels_aside}
 

@@ -1,5 +1,5 @@
 -- What lowering leaves: it undoes lifting, and finds no local where there is none.
-use Rattle.std.proofs.Common.{◌≡◌, ℕ, suc, pred, max, ◌+◌, ◌-◌, ◌<◌, ◌≤◌, nat_lt, if◌then◌else◌, true, false, Option, Some, None, Result, Ok, Err, refl, ap, sym, subst, ◌∙◌, arith}
+use Rattle.std.proofs.Common.{◌≡◌, ℕ, suc, max, ◌+◌, ◌-◌, ◌≤◌, nat_lt, if◌then◌else◌, Option, Some, None, Err, refl, ap, sym, subst, ◌∙◌, arith}
 use Rattle.std.proofs.lemmas.Bool.Decides.{nat_tests}
 use Rattle.lego_term.specs.Trees.{Core, Var, Const, Prop, Univ, Pi, Lam, App, Sigma, Pair, Fst, Snd, Let, lift, loose}
 use Rattle.lego_term.specs.Sequences.{or_else}
@@ -77,17 +77,21 @@ second_of_four by from under x t a r m n a' (Local i) s root h w =
 second_of_four by from under x t a r m n a' Memory s root h w = tt
 
 pub third_of_four : (by from under : ℕ) (x : Binder) (t a r m n a' r' : Core) (why : Raised) → under ≡ suc from → Pair x a r m n ≡ t → lift from by a' ≡ a → lift under by r' ≡ r → Lowers from by m (Err why) → Lowers from by t (Err why)
-third_of_four by from under x t a r m n a' r' (Local i) s root h k w =
-    (ap (first_below by from) (sym root)
-    ∙ found_second (first_below by from a) _ i (none_in by from a' a h)
-    (found_second (first_below by (suc from) r) _ i (none_in by (suc from) r' r (subst (λ z. lift z by r' ≡ r) s k)) (found_first (first_below by from m) _ i w.0)), w.1)
+third_of_four by from under x t a r m n a' r' (Local i) s root h k w = (
+  ap (first_below by from) (sym root)
+      ∙ found_second (first_below by from a) _ i (none_in by from a' a h)
+      (found_second (first_below by (suc from) r) _ i (none_in by (suc from) r' r (subst (λ z. lift z by r' ≡ r) s k)) (found_first (first_below by from m) _ i w.0)),
+  w.1,
+)
 third_of_four by from under x t a r m n a' r' Memory s root h k w = tt
 
 pub fourth_of_four : (by from under : ℕ) (x : Binder) (t a r m n a' r' m' : Core) (why : Raised) → under ≡ suc from → Pair x a r m n ≡ t → lift from by a' ≡ a → lift under by r' ≡ r → lift from by m' ≡ m → Lowers from by n (Err why)
     → Lowers from by t (Err why)
-fourth_of_four by from under x t a r m n a' r' m' (Local i) s root h k l w =
-    (ap (first_below by from) (sym root)
-    ∙ found_second (first_below by from a) _ i (none_in by from a' a h)
-    (found_second (first_below by (suc from) r) _ i (none_in by (suc from) r' r (subst (λ z. lift z by r' ≡ r) s k))
-    (found_second (first_below by from m) _ i (none_in by from m' m l) w.0)), w.1)
+fourth_of_four by from under x t a r m n a' r' m' (Local i) s root h k l w = (
+  ap (first_below by from) (sym root)
+      ∙ found_second (first_below by from a) _ i (none_in by from a' a h)
+      (found_second (first_below by (suc from) r) _ i (none_in by (suc from) r' r (subst (λ z. lift z by r' ≡ r) s k))
+      (found_second (first_below by from m) _ i (none_in by from m' m l) w.0)),
+  w.1,
+)
 fourth_of_four by from under x t a r m n a' r' m' Memory s root h k l w = tt

@@ -1,14 +1,12 @@
 -- The corresponding pair of two terms is that of their normal forms.
-use Rattle.std.proofs.Common.{◌≡◌, ℕ, zero, suc, ◌<◌, Option, Some, None, option_and_then, List, [], ◌∷◌, slice_get, IsFalse, refl, sym, ap, ◌∙◌, subst, arith}
+use Rattle.std.proofs.Common.{◌≡◌, ℕ, zero, suc, Some, None, List, slice_get, IsFalse, refl, sym, ap, ◌∙◌, subst, arith}
 use Rattle.lego_term.specs.declared.binder.Binder.{Binder}
-use Rattle.lego_term.specs.Trees.{Core, Var, Const, Prop, Univ, Pi, Lam, App, Sigma, Pair, Fst, Snd, Let}
-use Rattle.lego_term.specs.Parts.{Shape, shape_of, Branch, parts_of}
-use Rattle.lego_term.specs.Sequences.{head_step, normal_step, after, Ends, HeadForm, NormalForm}
+use Rattle.lego_term.specs.Trees.{Core, Pi, Lam, App, Sigma, Pair, Fst, Snd, Let}
+use Rattle.lego_term.specs.Parts.{shape_of, Branch, parts_of}
+use Rattle.lego_term.specs.Sequences.{normal_step, after, HeadForm, NormalForm}
 use Rattle.lego_laws.specs.Parallel.{CoreBodies}
-use Rattle.lego_laws.specs.HeadForms.{IsHeadForm}
 use Rattle.lego_laws.proofs.After.{at_most}
 use Rattle.lego_laws.proofs.Counted.{head_after}
-use Rattle.lego_match.specs.Agreement.{Agree}
 use Rattle.lego_match.specs.Holes.{FreeHoles, has_free_head}
 use Rattle.lego_match.specs.Pairs.{AgreeIn, AgreeBefore, inside, Corresponds, here, turn, PairsAreOfNormalForms}
 use Rattle.lego_match.proofs.FormLemmas.{Ended, ended, behind_heads, end_is_head, head_of_normal}

@@ -1,19 +1,18 @@
 -- A walk through the parts of two head forms, put together from the walk through one part and that through the rest.
-use Rattle.std.proofs.Common.{◌≡◌, ℕ, zero, suc, ◌+◌, ◌-◌, ◌≤◌, ◌<◌, true, false, Bool, Option, Some, None, Result, Ok, Err, List, [], ◌∷◌, ◌++◌, length, drop, slice_get, IsFalse, refl, sym, ap, ◌∙◌, subst, append_assoc, ⊎_elim, arith}
+use Rattle.std.proofs.Common.{◌≡◌, ℕ, zero, suc, ◌+◌, ◌-◌, ◌≤◌, ◌<◌, true, false, Bool, Option, Some, None, Result, Ok, Err, List, [], ◌∷◌, ◌++◌, drop, slice_get, IsFalse, refl, sym, ap, ◌∙◌, subst, append_assoc, ⊎_elim, arith}
 use Rattle.std.proofs.lemmas.Bool.{cases_lt}
 use Rattle.lego_term.specs.declared.binder.Binder.{Binder}
 use Rattle.lego_term.specs.Trees.{Core, Var, Const, Prop, Univ, Pi, Lam, App, Sigma, Pair, Fst, Snd, Let, depth}
-use Rattle.lego_term.specs.Parts.{Shape, APi, ALam, AnApp, ASigma, APair, AFst, ASnd, ALet, shape_of, Branch, parts_of, head_constant}
+use Rattle.lego_term.specs.Parts.{Shape, APi, ALam, AnApp, ASigma, APair, AFst, ASnd, ALet, shape_of, Branch, parts_of}
 use Rattle.lego_term.specs.Numbered.{is_at_head}
-use Rattle.lego_term.specs.Sequences.{head_step, Ends}
 use Rattle.lego_laws.specs.Parallel.{CoreBodies}
 use Rattle.lego_laws.specs.HeadForms.{IsHeadForm}
 use Rattle.lego_laws.specs.Counting.{HasSteps, PartsHaveSteps, up_to_here, and_then}
 use Rattle.lego_laws.proofs.Stuck.{app_stuck, fst_stuck, snd_stuck}
 use Rattle.lego_match.specs.Holes.{FreeHoles, has_free_head}
-use Rattle.lego_match.specs.Pairs.{AgreeIn, AgreeBefore, Corresponds, turn, inside}
+use Rattle.lego_match.specs.Pairs.{AgreeIn, AgreeBefore, Corresponds, turn}
 use Rattle.lego_match.specs.private.Codes.{position_inside}
-use Rattle.lego_match.specs.private.Walks.{IsNormal, AllAgree, Walks, PartWalks, PartsWalk, StopsBy, Passed}
+use Rattle.lego_match.specs.private.Walks.{IsNormal, AllAgree, Walks, PartWalks, PartsWalk}
 use Rattle.lego_match.specs.declared.stop.Stop.{Stop}
 use Rattle.lego_match.specs.declared.stop.Stop.TheVariants.{Apart, Budget, Whole, Memory}
 use Rattle.lego_match.specs.declared.walk.Position.{Position}

@@ -1,9 +1,9 @@
 -- The loose variables of the corresponding pair are locals, and variables of the binders crossed.
-use Rattle.std.proofs.Common.{◌≡◌, ℕ, zero, suc, ◌+◌, ◌≤◌, Option, Some, None, List, [], ◌∷◌, length, slice_get, refl, ap, subst, arith}
+use Rattle.std.proofs.Common.{◌≡◌, ℕ, zero, suc, ◌+◌, ◌≤◌, Option, Some, None, List, [], length, slice_get, refl, ap, subst, arith}
 use Rattle.lego_term.specs.declared.binder.Binder.{Binder}
-use Rattle.lego_term.specs.Trees.{Core, Var, Const, Prop, Univ, Pi, Lam, App, Sigma, Pair, Fst, Snd, Let, loose}
+use Rattle.lego_term.specs.Trees.{Core, Pi, Lam, App, Sigma, Pair, Fst, Snd, Let, loose}
 use Rattle.lego_term.specs.Parts.{Shape, APi, ALam, AnApp, ASigma, APair, AFst, ASnd, ALet, shape_of, Branch, parts_of}
-use Rattle.lego_term.specs.Sequences.{head_step, normal_step, after, HeadForm, NormalForm}
+use Rattle.lego_term.specs.Sequences.{head_step, normal_step, after}
 use Rattle.lego_term.specs.BodyMap.{BodyMap, bodies_in, AreClosed}
 use Rattle.lego_laws.proofs.After.{next}
 use Rattle.lego_laws.proofs.NormalSteps.{normal_step-step}

@@ -1,10 +1,9 @@
 -- What the corresponding pair gives, from what its parts are.
-use Rattle.std.proofs.Common.{◌≡◌, ℕ, suc, ◌+◌, ◌-◌, ◌≤◌, ◌<◌, List, [], ◌++◌, length, Option, Some, None, Result, Ok, Err, IsTrue, IsFalse, ◌⊎◌, inl, inr, ⊎_elim, refl, sym, ap, ◌∙◌, subst, arith}
+use Rattle.std.proofs.Common.{◌≡◌, ℕ, suc, ◌+◌, ◌-◌, ◌≤◌, ◌<◌, List, [], ◌++◌, length, Option, Some, None, Result, Ok, Err, inl, inr, ⊎_elim, refl, sym, ap, ◌∙◌, subst, arith}
 use Rattle.std.specs.Prelude.{IfSome, IfNone, IfOk, IfErr}
 use Rattle.std.proofs.lemmas.Bool.{cases_lt}
 use Rattle.lego_term.specs.declared.binder.Binder.{Binder}
-use Rattle.lego_term.specs.Trees.{Core, lift, loose, mentions}
-use Rattle.lego_term.specs.Parts.{Shape, shape_of}
+use Rattle.lego_term.specs.Trees.{Core, lift, loose}
 use Rattle.lego_term.specs.BodyMap.{BodyMap, bodies_in, AreClosed}
 use Rattle.lego_term.specs.Sequences.{normal_step, after, NormalForm}
 use Rattle.lego_laws.specs.Parallel.{CoreBodies}
@@ -14,11 +13,15 @@ use Rattle.lego_laws.proofs.Counted.{costly}
 use Rattle.lego_reduce.specs.declared.fault.ReduceFault.{ReduceFault}
 use Rattle.lego_reduce.specs.declared.fault.ReduceFault.TheVariants as reduce
 use Rattle.lego_reduce.specs.Reduction.{Reduces}
-use Rattle.lego_match.specs.Holes.{FreeHoles, has_free_head, IsApplied}
+use Rattle.lego_match.specs.Holes.{FreeHoles, IsApplied}
 use Rattle.lego_match.specs.Pairs.{AgreeIn, Corresponds, here, turn}
 use Rattle.lego_match.specs.Agreement.{Agree}
 use Rattle.lego_match.specs.Answers.{Solves, of_left, of_right, IsCandidate, IsRefusedBy}
-use Rattle.lego_match.specs.private.Walks.{EndsHere, HasLowVariables, StopsUnder, TooMany, IsNormal}
+use Rattle.lego_match.specs.private.Walks.{EndsHere, HasLowVariables, StopsUnder, StopsBy, TooMany, IsNormal}
+use Rattle.lego_match.specs.declared.walk.Position.{Position}
+use Rattle.lego_match.specs.declared.stop.Stop.{Stop}
+use Rattle.lego_match.specs.declared.stop.Stop.TheVariants.{Apart}
+use Rattle.lego_match.specs.declared.stop.Stop.TheVariants as stop
 use Rattle.lego_match.specs.private.Faults.{of_reduction}
 use Rattle.lego_match.specs.private.Verdicts.{IsSolution, IsUnsolved, IsVerdict, IsAnswer, IsNormalAnswer}
 use Rattle.lego_match.specs.declared.answer.Candidate.{Candidate}
@@ -164,6 +167,18 @@ ready bodies closed free depth t u p q old new none le tl ul w =
       apart = corresponds_apart (bodies_in bodies) free w.pair;
       ends = w.ends;
     })
+
+pub ready_at : (bodies : BodyMap) → AreClosed bodies → (free : FreeHoles) (depth : ℕ) (t u p q : Core) (at : Position) (old new : List Binder) (why : Stop) → old ≡ [] → depth ≤ 65536 → loose t ≤ depth → loose u ≤ depth → why ≡ Apart p q
+    → StopsBy free (Corresponds (bodies_in bodies) free t u) (HasSteps (bodies_in bodies) t) (HasSteps (bodies_in bodies) u) at old new why → at.room ≡ 2001 → Ready bodies free depth t u p q new
+ready_at bodies closed free depth t u p q at old new why none le tl ul e w room =
+    ready bodies closed free depth t u p q old new none le tl ul
+    (subst (λ z. StopsUnder free (λ xs. Corresponds (bodies_in bodies) free t u xs p q) z p q old new) room
+    (subst (λ z. StopsBy free (Corresponds (bodies_in bodies) free t u) (HasSteps (bodies_in bodies) t) (HasSteps (bodies_in bodies) u) at old new z) e w))
+
+-- and where it made too many steps
+pub too_many_at : (b : CoreBodies) (free : FreeHoles) (t u : Core) (at : Position) (old new : List Binder) (why : Stop) → why ≡ stop.Budget → StopsBy free (Corresponds b free t u) (HasSteps b t) (HasSteps b u) at old new why
+    → TooMany (HasSteps b t) (HasSteps b u) at.limit
+too_many_at b free t u at old new why e w = subst (λ z. StopsBy free (Corresponds b free t u) (HasSteps b t) (HasSteps b u) at old new z) e w
 
 -- the answer for two normal forms is one for the terms that have them
 pub normal_answer : (b : CoreBodies) (free : FreeHoles) (locals limit : ℕ) (t u e f : Core) (result : Result (Option Candidate) MatchFault) → NormalForm b t e → NormalForm b u f → IsNormalAnswer b free locals e f result

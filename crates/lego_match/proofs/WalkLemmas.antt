@@ -1,24 +1,22 @@
 -- A walk through two terms, put together from their head forms and the walk through these.
-use Rattle.std.proofs.Common.{◌≡◌, ℕ, suc, ◌+◌, ◌-◌, ◌≤◌, ◌<◌, Bool, true, false, Option, Some, None, Result, Ok, Err, List, [], ◌++◌, IsFalse, refl, sym, ap, ◌∙◌, subst, arith}
+use Rattle.std.proofs.Common.{◌≡◌, ℕ, suc, ◌+◌, ◌-◌, ◌≤◌, true, false, Option, Some, None, Result, Ok, Err, List, [], refl, sym, ap, ◌∙◌, arith}
 use Rattle.std.proofs.lemmas.List.{append-nil}
 use Rattle.lego_term.specs.declared.binder.Binder.{Binder}
 use Rattle.lego_term.specs.Trees.{Core, Let, EqualButLevels}
-use Rattle.lego_term.specs.Parts.{Shape, ALet, shape_of, Branch, parts_of}
-use Rattle.lego_term.specs.Sequences.{head_step, normal_step, after, Ends, NormalForm}
+use Rattle.lego_term.specs.Parts.{Shape, ALet, shape_of}
+use Rattle.lego_term.specs.Sequences.{head_step, normal_step, after, Ends}
 use Rattle.lego_laws.specs.Parallel.{CoreBodies}
 use Rattle.lego_laws.specs.HeadForms.{IsHeadForm}
-use Rattle.lego_laws.specs.Counting.{HasSteps}
 use Rattle.lego_laws.proofs.After.{after_add}
 use Rattle.lego_laws.proofs.Counted.{head_after, head_counted, parts_steps_are_counted}
 use Rattle.lego_reduce.specs.declared.fault.ReduceFault.{ReduceFault}
 use Rattle.lego_reduce.specs.declared.fault.ReduceFault.TheVariants as reduce
 use Rattle.lego_reduce.specs.Reduction.{Reduces}
-use Rattle.lego_match.specs.Agreement.{Agree}
-use Rattle.lego_match.specs.Holes.{FreeHoles, has_free_head}
+use Rattle.lego_match.specs.Holes.{FreeHoles}
 use Rattle.lego_match.specs.Pairs.{AgreeIn, Corresponds, here, turn}
 use Rattle.lego_match.specs.private.Codes.{agree_at_root}
 use Rattle.lego_match.specs.private.Faults.{stop_of}
-use Rattle.lego_match.specs.private.Walks.{AllAgree, HasLowVariables, GoesOn, EndsHere, EndsApart, Walks, PartsWalk, StopsBy, Settles, Decides, Heads}
+use Rattle.lego_match.specs.private.Walks.{AllAgree, HasLowVariables, GoesOn, EndsHere, Walks, PartsWalk, Settles, Decides, Heads}
 use Rattle.lego_match.specs.declared.stop.Stop.{Stop}
 use Rattle.lego_match.specs.declared.stop.Stop.TheVariants.{Apart, Budget, Whole, Memory}
 use Rattle.lego_match.specs.declared.walk.Position.{Position}
@@ -81,8 +79,11 @@ module _ (b : CoreBodies) where
   module _ (free : FreeHoles) where
     ends_here : (h k p q : Core) → IsHeadForm b h → Ended b h p → Ended b k q → (GoesOn free h k → ⊥) → EndsHere free p q
     ends_here h k p q s l r why fp fq f e e' =
-        why (sym (same_free_head free p h l.head) ∙ fp, sym (same_free_head free q k r.head) ∙ fq,
-        shapes_agree h k f (sym l.shape ∙ e) (sym r.shape ∙ e') (λ y. no_local h s (sym l.shape ∙ (e ∙ ap Some y))))
+        why (
+          sym (same_free_head free p h l.head) ∙ fp,
+          sym (same_free_head free q k r.head) ∙ fq,
+          shapes_agree h k f (sym l.shape ∙ e) (sym r.shape ∙ e') (λ y. no_local h s (sym l.shape ∙ (e ∙ ap Some y))),
+        )
 
     pub settled : (h k : Core) (at : Position) (old : List Binder) (result : Result ℕ Stop) → IsHeadForm b h → IsHeadForm b k → (GoesOn free h k → ⊥) → Settles b h k at result → Walks b free h k at old old result
     settled h k at old (Ok steps) s s' why w =

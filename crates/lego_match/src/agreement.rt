@@ -26,10 +26,7 @@ fn agree_by_node(a: &Term, b: &Term) -> bool
         (Node::App(_, a, b), Node::App(_, c, d)) => agree_by_node(a, c) && agree_by_node(b, d),
         (Node::Sigma(_, a, b), Node::Sigma(_, c, d)) => agree_by_node(a, c) && agree_by_node(b, d),
         (Node::Pair(_, a, b, m, n), Node::Pair(_, c, d, p, q)) => {
-            agree_by_node(a, c)
-                && agree_by_node(b, d)
-                && agree_by_node(m, p)
-                && agree_by_node(n, q)
+            agree_by_node(a, c) && agree_by_node(b, d) && agree_by_node(m, p) && agree_by_node(n, q)
         }
         (Node::Fst(a), Node::Fst(c)) => agree_by_node(a, c),
         (Node::Snd(a), Node::Snd(c)) => agree_by_node(a, c),

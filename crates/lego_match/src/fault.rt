@@ -18,7 +18,9 @@ pub enum MatchFault {
         deeper: List<Binder>,
     },
     /// The other part of the pair mentions the hole.
-    Occurs { hole: u32 },
+    Occurs {
+        hole: u32,
+    },
     /// The other part of the pair has a local beyond the hole's hypotheses: this one is the first,
     /// left to right, counted from 0 at the innermost of the locals and the binders crossed.
     Scope {
@@ -37,7 +39,10 @@ pub enum MatchFault {
     Budget,
     /// A term that one of the normalisation sequences reaches within the limit has a subtree of
     /// this size and depth, which passes a limit of terms.
-    TooLarge { size: u64, depth: u32 },
+    TooLarge {
+        size: u64,
+        depth: u32,
+    },
     /// Memory ran out.
     Memory,
 }

@@ -209,12 +209,7 @@ fn solution(
 }
 
 /// The refusal of a pair of which neither part is a free hole applied to its own hypotheses.
-fn unsolved(
-    setting: &Setting<'_>,
-    left: Term,
-    right: Term,
-    deeper: Vec<Binder>,
-) -> MatchFault
+fn unsolved(setting: &Setting<'_>, left: Term, right: Term, deeper: Vec<Binder>) -> MatchFault
     ensures { IsUnsolved (get nat_cmp setting.now.free.now) left right deeper.items result }
 {
     let is_higher = has_free_head(setting.free, &left) || has_free_head(setting.free, &right);

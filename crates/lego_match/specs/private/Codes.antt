@@ -1,5 +1,5 @@
 -- What the small functions of a match answer.
-use Rattle.std.specs.Prelude.{◌≡◌, ℕ, ◌-◌, Bool, true, false, ◌&&◌, nat_eq}
+use Rattle.std.specs.Prelude.{ℕ, ◌-◌, Bool, true, false, ◌&&◌, nat_eq}
 use Rattle.lego_term.specs.Trees.{Core, Var, Const, Prop, Univ, Pi, Lam, App, Sigma, Pair, Fst, Snd, Let}
 use Rattle.lego_term.specs.Numbered.{is_at_head}
 use Rattle.lego_match.specs.declared.walk.Position.{Position}

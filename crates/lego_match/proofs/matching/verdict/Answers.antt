@@ -1,4 +1,4 @@
-use Rattle.std.proofs.Common.{◌+◌, Err, arith}
+use Rattle.std.proofs.Common.{Err, arith}
 use Rattle.std.specs.Ordering.{nat_cmp}
 use Rattle.std.specs.BTreeMap.{get}
 use Rattle.lego_match.proofs.VerdictLemmas.{right_greater, left_greater, left_alone, right_alone, neither}

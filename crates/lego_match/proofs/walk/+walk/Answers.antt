@@ -63,16 +63,31 @@ parts_from-walk_part-requires t c =
     let x = sym c.in-Some-Some.ensures.part in
     let y = sym c.in-Some-Some.ensures'.part in
     let at_head = λ (h : c.inside-inside.result.are_head_forms ≡ true). subst (λ (z : Position). z.are_head_forms ≡ true) c.inside-inside.ensures h in
-    let normal = λ (h : c.inside-inside.result.are_normal ≡ true). subst (λ (z : Position). z.are_normal ≡ true) c.inside-inside.ensures h in
-    (omega (arith, room, few, falls, goes_on),
-    (omega (arith, room, goes_on, left, l),
-    (omega (arith, room, goes_on, right, r),
-    (omega (arith, room, path),
-    (c.requires.closed,
-    (λ h. part_head b free c.args.a.now c.args.number _ c.args.at (at_head h) c.requires.left_stuck c.requires.left_head x,
-    (λ h. part_head b free c.args.b.now c.args.number _ c.args.at (sym (same_at_head b c.args.a.now c.args.b.now c.args.number c.requires.one_form) ∙ at_head h) c.requires.right_stuck c.requires.right_head y,
-    (λ h. subst (λ z. IsNormal b c.in-Some-Some.left.term.now × (depth c.in-Some-Some.left.term.now < z)) (sym room) (part_normal b free c.args.a.now c.args.number _ c.args.at (c.requires.left_normal (normal h)) c.in-Some-Some.ensures.above x),
-    λ h. subst (λ z. IsNormal b c.in-Some-Some.right.term.now × (depth c.in-Some-Some.right.term.now < z)) (sym room) (part_normal b free c.args.b.now c.args.number _ c.args.at (c.requires.right_normal (normal h)) c.in-Some-Some.ensures'.above y)))))))))
+    let normal = λ (h : c.inside-inside.result.are_normal ≡ true). subst (λ (z : Position). z.are_normal ≡ true) c.inside-inside.ensures h in (
+      omega (arith, room, few, falls, goes_on),
+      (
+        omega (arith, room, goes_on, left, l),
+        (
+          omega (arith, room, goes_on, right, r),
+          (
+            omega (arith, room, path),
+            (
+              c.requires.closed,
+              (
+                λ h. part_head b free c.args.a.now c.args.number _ c.args.at (at_head h) c.requires.left_stuck c.requires.left_head x,
+                (
+                  λ h. part_head b free c.args.b.now c.args.number _ c.args.at (sym (same_at_head b c.args.a.now c.args.b.now c.args.number c.requires.one_form) ∙ at_head h) c.requires.right_stuck c.requires.right_head y,
+                  (
+                    λ h. subst (λ z. IsNormal b c.in-Some-Some.left.term.now × (depth c.in-Some-Some.left.term.now < z)) (sym room) (part_normal b free c.args.a.now c.args.number _ c.args.at (c.requires.left_normal (normal h)) c.in-Some-Some.ensures.above x),
+                    λ h. subst (λ z. IsNormal b c.in-Some-Some.right.term.now × (depth c.in-Some-Some.right.term.now < z)) (sym room) (part_normal b free c.args.b.now c.args.number _ c.args.at (c.requires.right_normal (normal h)) c.in-Some-Some.ensures'.above y),
+                  ),
+                ),
+              ),
+            ),
+          ),
+        ),
+      ),
+    )
 
 pub parts_from-returns-in_err-steps : goal.parts_from-returns-in_err-steps
 parts_from-returns-in_err-steps t c =
@@ -87,9 +102,46 @@ pub parts_from-parts_from-requires : goal.parts_from-parts_from-requires
 parts_from-parts_from-requires t c =
     let b = bodies_in c.args.setting.now.bodies.now in
     let w = c.in_ok-steps.ensures in
-    let few = c.in-Some-Some.ensures.few in let falls = c.decreases in
-    (omega (arith, few, falls), (c.requires.left, (c.requires.right, (c.requires.path, (c.requires.goes_on, (c.requires.closed, (c.requires.left_stuck, (c.requires.right_stuck, (c.requires.left_head, (c.requires.right_head, (c.requires.left_normal, (c.requires.right_normal, (c.requires.one_form,
-    one_more b c.args.a.now c.args.b.now c.args.number (c.args.number + 1) (branch_of c.in-Some-Some.left) (branch_of c.in-Some-Some.right) (omega arith) c.requires.before (sym c.in-Some-Some.ensures.part) (sym c.in-Some-Some.ensures'.part) w.agreed)))))))))))))
+    let few = c.in-Some-Some.ensures.few in let falls = c.decreases in (
+      omega (arith, few, falls),
+      (
+        c.requires.left,
+        (
+          c.requires.right,
+          (
+            c.requires.path,
+            (
+              c.requires.goes_on,
+              (
+                c.requires.closed,
+                (
+                  c.requires.left_stuck,
+                  (
+                    c.requires.right_stuck,
+                    (
+                      c.requires.left_head,
+                      (
+                        c.requires.right_head,
+                        (
+                          c.requires.left_normal,
+                          (
+                            c.requires.right_normal,
+                            (
+                              c.requires.one_form,
+                              one_more b c.args.a.now c.args.b.now c.args.number (c.args.number + 1) (branch_of c.in-Some-Some.left) (branch_of c.in-Some-Some.right) (omega arith) c.requires.before (sym c.in-Some-Some.ensures.part) (sym c.in-Some-Some.ensures'.part) w.agreed,
+                            ),
+                          ),
+                        ),
+                      ),
+                    ),
+                  ),
+                ),
+              ),
+            ),
+          ),
+        ),
+      ),
+    )
 
 pub parts_from-returns-in_err-more : goal.parts_from-returns-in_err-more
 parts_from-returns-in_err-more t c =
@@ -127,7 +179,28 @@ pub walk-forms-requires : goal.walk-forms-requires
 walk-forms-requires t c =
     let b = bodies_in c.args.setting.now.bodies.now in
     let falls = c.decreases in
-    let room = c.if-at-eq0.false in
-    (omega (arith, falls), (c.requires.left, (c.requires.right, (c.requires.path, (omega (arith, room), (c.requires.closed,
-    (end_is_head b c.args.a.now (c.requires.left_normal c.if-at.true).0, (end_is_head b c.args.b.now (c.requires.right_normal c.if-at.true).0,
-    (λ h. (c.requires.left_head h).1, (λ h. (c.requires.right_head h).1, (c.requires.left_normal, c.requires.right_normal)))))))))))
+    let room = c.if-at-eq0.false in (
+      omega (arith, falls),
+      (
+        c.requires.left,
+        (
+          c.requires.right,
+          (
+            c.requires.path,
+            (
+              omega (arith, room),
+              (
+                c.requires.closed,
+                (
+                  end_is_head b c.args.a.now (c.requires.left_normal c.if-at.true).0,
+                  (
+                    end_is_head b c.args.b.now (c.requires.right_normal c.if-at.true).0,
+                    (λ h. (c.requires.left_head h).1, (λ h. (c.requires.right_head h).1, (c.requires.left_normal, c.requires.right_normal))),
+                  ),
+                ),
+              ),
+            ),
+          ),
+        ),
+      ),
+    )

@@ -1,6 +1,5 @@
-use Rattle.std.proofs.Common.{◌+◌, ◌≤◌, ◌≡◌, refl, sym, ap, arith}
+use Rattle.std.proofs.Common.{◌+◌, refl, arith}
 use Rattle.std.proofs.lemmas.Result.{err_from_is_err_and}
-use Rattle.lego_term.specs.Trees.{loose, depth}
 use Rattle.lego_term.specs.BodyMap.{bodies_in}
 use Rattle.lego_match.proofs.ScopeLemmas.{loose_normal}
 use Rattle.lego_match.proofs.WalkLemmas.{decided_settles, left_end_fails, right_end_fails}
