@@ -7,4 +7,5 @@ pub mod ScopeLemmas
 pub mod WalkLemmas
 pub mod PartLemmas
 pub mod NormalLemmas
+pub mod UniqueLemmas
 pub mod VerdictLemmas

@@ -34,7 +34,7 @@ some_part (Let x a r) (Let y c s) f (suc zero) p e = (_, refl)
 some_part _ _ f i p e = cc
 
 module _ (b : CoreBodies) where
-  one_normal : (t p q : Core) → NormalForm b t p → NormalForm b t q → p ≡ q
+  pub one_normal : (t p q : Core) → NormalForm b t p → NormalForm b t q → p ≡ q
   one_normal t p q x y = one_end (normal_step b) t p q x.0 y.0 x.1 y.1
 
   itself : (t e : Core) → NormalForm b t e → NormalForm b e e
@@ -71,7 +71,7 @@ module _ (b : CoreBodies) where
       rw (one_normal l.term p l.term n (itself u.0.term l.term u.2), one_normal r.term q r.term m (itself v.0.term r.term v.2)) w
 
   -- a normal form is its own head form
-  normal_head : (t h : Core) → normal_step b t ≡ None → HeadForm b t h → h ≡ t
+  pub normal_head : (t h : Core) → normal_step b t ≡ None → HeadForm b t h → h ≡ t
   normal_head t h e p =
       let a = head_after b p.0 t h p.1.reaches in
       let l = at_most (normal_step b) 0 p.0 t t refl e (h, a) in

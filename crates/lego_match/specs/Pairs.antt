@@ -37,3 +37,21 @@ abbrev pub PairsAreOfNormalForms : Type 0
 PairsAreOfNormalForms =
     (b : CoreBodies) (free : FreeHoles) (t u p q t' u' : Core) (xs : List Binder)
     → Corresponds b free t u xs p q → NormalForm b t t' → NormalForm b u u' → Corresponds b free t' u' xs p q
+
+-- the rule goes into the parts of the two: no free hole stands at the head of either, and both have one form
+abbrev pub GoesIntoParts : FreeHoles → Core → Core → Type 0
+GoesIntoParts free p q =
+    IsFalse (has_free_head free p) × IsFalse (has_free_head free q) × (s : Shape) × (shape_of p ≡ Some s) × (shape_of q ≡ Some s)
+
+-- where two terms have normal forms, one corresponding pair is such that the rule doesn't go into its parts
+abbrev pub PairsAreOne : Type 0
+PairsAreOne =
+    (b : CoreBodies) (free : FreeHoles) (t u t' u' : Core) → NormalForm b t t' → NormalForm b u u'
+    → (p q p' q' : Core) (xs ys : List Binder) → Corresponds b free t u xs p q → (GoesIntoParts free p q → ⊥)
+    → Corresponds b free t u ys p' q' → (GoesIntoParts free p' q' → ⊥) → (xs ≡ ys) × (p ≡ p') × (q ≡ q')
+
+-- and then they don't agree
+abbrev pub PairsDisagree : Type 0
+PairsDisagree =
+    (b : CoreBodies) (free : FreeHoles) (t u t' u' : Core) → NormalForm b t t' → NormalForm b u u'
+    → (p q : Core) (xs : List Binder) → Corresponds b free t u xs p q → AgreeIn b t u → ⊥

@@ -6,6 +6,7 @@ mod agreement;
 mod answer;
 mod fault;
 mod holes;
+mod laws;
 mod lowering;
 mod matching;
 mod stop;
@@ -13,4 +14,5 @@ mod walk;
 
 pub use answer::Candidate;
 pub use fault::MatchFault;
-pub use matching::{candidate, pairs_are_of_normal_forms};
+pub use laws::{pairs_are_of_normal_forms, pairs_are_one, pairs_disagree};
+pub use matching::candidate;

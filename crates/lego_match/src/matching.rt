@@ -6,7 +6,7 @@ ghost use Rattle.lego_term.specs.Trees.{loose};
 ghost use Rattle.lego_term.specs.BodyMap.{bodies_in, AreClosed};
 ghost use Rattle.lego_match.specs.Agreement.{Agree};
 ghost use Rattle.lego_match.specs.Holes.{listed};
-ghost use Rattle.lego_match.specs.Pairs.{AgreeIn, PairsAreOfNormalForms};
+ghost use Rattle.lego_match.specs.Pairs.{AgreeIn};
 ghost use Rattle.lego_match.specs.Answers.{IsCandidate, IsRefusedBy};
 ghost use Rattle.lego_match.specs.private.Walks.{IsNormal, HasLowVariables, EndsHere};
 ghost use Rattle.lego_match.specs.private.Verdicts.{IsAnswer, IsNormalAnswer, IsVerdict, IsSolution, IsUnsolved};
@@ -228,8 +228,3 @@ fn unsolved(setting: &Setting<'_>, left: Term, right: Term, deeper: Vec<Binder>)
         }
     }
 }
-
-/// The corresponding pair of two terms is that of their normal forms, where both have one.
-pub fn pairs_are_of_normal_forms()
-    ensures { PairsAreOfNormalForms }
-{}
