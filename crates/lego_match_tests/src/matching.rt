@@ -109,11 +109,13 @@ fn clashes(
     binders: &[Binder],
 ) -> bool {
     match answer {
-        Err(MatchFault::Clash {
-            left,
-            right,
-            deeper,
-        }) => identical(left, a) && identical(right, b) && deeper.items() == binders,
+        Err(
+            MatchFault::Clash {
+                left,
+                right,
+                deeper,
+            },
+        ) => identical(left, a) && identical(right, b) && deeper.items() == binders,
         _ => false,
     }
 }
@@ -125,11 +127,13 @@ fn is_higher_order(
     binders: &[Binder],
 ) -> bool {
     match answer {
-        Err(MatchFault::HigherOrder {
-            left,
-            right,
-            deeper,
-        }) => identical(left, a) && identical(right, b) && deeper.items() == binders,
+        Err(
+            MatchFault::HigherOrder {
+                left,
+                right,
+                deeper,
+            },
+        ) => identical(left, a) && identical(right, b) && deeper.items() == binders,
         _ => false,
     }
 }
@@ -148,11 +152,13 @@ fn escapes(
     binders: &[Binder],
 ) -> bool {
     match answer {
-        Err(MatchFault::Scope {
-            hole,
-            variable,
-            deeper,
-        }) => *hole == number && *variable == index && deeper.items() == binders,
+        Err(
+            MatchFault::Scope {
+                hole,
+                variable,
+                deeper,
+            },
+        ) => *hole == number && *variable == index && deeper.items() == binders,
         _ => false,
     }
 }
@@ -204,8 +210,14 @@ fn a_hole_takes_each_form_from_both_sides(rt: HostRuntime) -> Result<(), Fail> {
     let hole = spine(alloc, 5, &[1, 0])?;
     for number in 0..13 {
         let other = any_form(alloc, number)?;
-        assert!(rt; solves(&matched(alloc, 2, &hole, &other)?, 5, &other), "form {number}");
-        assert!(rt; solves(&matched(alloc, 2, &other, &hole)?, 5, &other), "form {number}");
+        assert!(rt;
+            solves(&matched(alloc, 2, &hole, &other)?, 5, &other),
+            "form {number}"
+        );
+        assert!(rt;
+            solves(&matched(alloc, 2, &other, &hole)?, 5, &other),
+            "form {number}"
+        );
     }
     Ok(())
 }
@@ -235,9 +247,15 @@ fn a_hole_at_the_head_of_another_term_is_of_higher_order(rt: HostRuntime) -> Res
         for other in 0..13 {
             let b = any_form(alloc, other)?;
             let found = matched(alloc, 2, &a, &b)?;
-            assert!(rt; is_higher_order(&found, &a, &b, &[]), "terms {number}, {other}");
+            assert!(rt;
+                is_higher_order(&found, &a, &b, &[]),
+                "terms {number}, {other}"
+            );
             let found = matched(alloc, 2, &b, &a)?;
-            assert!(rt; is_higher_order(&found, &b, &a, &[]), "terms {other}, {number}");
+            assert!(rt;
+                is_higher_order(&found, &b, &a, &[]),
+                "terms {other}, {number}"
+            );
         }
     }
     Ok(())
@@ -282,7 +300,13 @@ fn a_body_stands_under_the_hypotheses_alone(rt: HostRuntime) -> Result<(), Fail>
     let alloc = rt.alloc();
     let hole = spine(alloc, 4, &[2])?;
     let below = spine(alloc, A, &[2])?;
-    assert!(rt; solves(&matched(alloc, 3, &hole, &below)?, 4, &spine(alloc, A, &[0])?));
+    assert!(rt;
+        solves(
+            &matched(alloc, 3, &hole, &below)?,
+            4,
+            &spine(alloc, A, &[0])?
+        )
+    );
     let under = lam(alloc, PLAIN, &below, &spine(alloc, A, &[0, 3])?)?;
     let body = lam(
         alloc,
