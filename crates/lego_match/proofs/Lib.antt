@@ -1,0 +1,11 @@
+pub mod AgreementLemmas
+pub mod FormLemmas
+pub mod LevelLemmas
+pub mod HoleLemmas
+pub mod LoweringLemmas
+pub mod ScopeLemmas
+pub mod WalkLemmas
+pub mod PartLemmas
+pub mod NormalLemmas
+pub mod UniqueLemmas
+pub mod VerdictLemmas

@@ -1,0 +1,5 @@
+pub mod Agreement
+pub mod Holes
+pub mod Pairs
+pub mod Answers
+pub mod private
