@@ -17,6 +17,9 @@ pub mod PlacesLemmas
 pub mod UnreadLemmas
 pub mod CommandLemmas
 pub mod AnswerLemmas
-pub mod CutLemmas
+pub mod NearLemmas
+pub mod PendingLemmas
+pub mod GatheredLemmas
 pub mod RunLemmas
+pub mod ProgressLemmas
 pub mod OutcomeLemmas

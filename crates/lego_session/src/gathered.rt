@@ -4,7 +4,7 @@ ghost use Rattle.lego_base.specs.Bytes.{AppendsFront};
 ghost use Rattle.lego_session.specs.private.Gathered.{Gathers, HasFailed};
 
 use crate::status::Status;
-use lego_base::{Sink, send};
+use lego_base::{Failed, Sink, send};
 use std::alloc::Global;
 
 /// With so many bytes what is gathered is sent.
@@ -50,10 +50,12 @@ impl Gathered {
         ensures kept { OnOk result (K.faults out.new ≡ K.faults out.old) }
         ensures cause { IfErr result (λ status. HasFailed (K.faults out.old) (K.faults out.new) status) }
     {
-        if send(out, self.text.as_slice()).is_err() {
-            return Err(Status::WriteFault);
+        match send(out, self.text.as_slice()) {
+            Ok(()) => {
+                self.text.clear();
+                Ok(())
+            }
+            Err(Failed) => Err(Status::WriteFault),
         }
-        self.text.clear();
-        Ok(())
     }
 }

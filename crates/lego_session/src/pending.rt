@@ -1,5 +1,5 @@
 //! The bytes behind the last command, which come piece by piece.
-ghost use Rattle.std.specs.Prelude.{◌≡◌, ◌<◌, ◌≤◌, ◌+◌, ◌++◌, [], ℕ, List, Option, length, OnOk, IfOk};
+ghost use Rattle.std.specs.Prelude.{◌≡◌, ◌≤◌, ◌+◌, ◌-◌, ◌++◌, [], ℕ, List, length, take, OnOk, IfOk};
 ghost use Rattle.lego_base.specs.Place.{behind};
 ghost use Rattle.lego_base.specs.declared.place.Place.{Place as TextPlace};
 ghost use Rattle.lego_lexer.specs.Commands.{Cuts};
@@ -111,15 +111,22 @@ impl Pending {
         let Some(start) = start else {
             return Ok(());
         };
-        let mut from = 0;
-        if base <= start {
-            from = (start - base).min(bytes.len());
-            self.first = after(self.here, &bytes[..from]);
-            self.kept.clear();
+        if start < base {
+            return self.extend(bytes);
         }
+        let from = (start - base).min(bytes.len());
+        self.first = after(self.here, &bytes[..from]);
+        self.kept.clear();
+        self.extend(&bytes[from..])
+    }
+
+    /// Keeps more bytes, within the limit.
+    fn extend(&mut self, bytes: &[u8]) -> Result<(), AllocError>
+        ensures others { self.new ≡ record self.old { kept = self.new.kept } }
+        ensures kept { OnOk result (self.new.kept.items ≡ self.old.kept.items ++ take (65536 - length self.old.kept.items) bytes.now) }
+    {
         let room = MAX_COMMAND.saturating_sub(self.kept.len());
-        let more = &bytes[from..];
-        self.kept.extend_from_slice(&more[..more.len().min(room)])
+        self.kept.extend_from_slice(&bytes[..bytes.len().min(room)])
     }
 
     /// Marks where the comment begins in which the bytes end, behind the last ones that came.
@@ -129,14 +136,20 @@ impl Pending {
         ensures others { self.new ≡ record self.old { comment = self.new.comment } }
         ensures marked { (place : TextPlace) (from : ℕ) (old : List ℕ) → self.old.here ≡ behind place old → base ≡ from + length old → Stands self.old.cutter from (old ++ bytes.now) → IsMarked self.old.comment place old → IsMarked self.new.comment place (old ++ bytes.now) }
     {
-        if let Cut::OpenComment { start } = self.cutter.end() {
-            if base <= start {
-                let from = (start - base).min(bytes.len());
-                self.comment = after(self.here, &bytes[..from]);
-            } else if base - start == 1 {
-                // Its `(` came last, and ends no line.
-                self.comment = place_before(self.here);
+        match self.cutter.end() {
+            Cut::OpenComment { start } => {
+                if base <= start {
+                    let from = (start - base).min(bytes.len());
+                    self.comment = after(self.here, &bytes[..from]);
+                } else if base - start == 1 {
+                    // Its `(` came last, and ends no line.
+                    self.comment = place_before(self.here);
+                }
             }
+            Cut::Blank => {}
+            Cut::Unended { .. } => {}
+            Cut::Command { .. } => {}
+            Cut::LongCommand { .. } => {}
         }
     }
 
@@ -149,7 +162,9 @@ impl Pending {
             Cut::OpenComment { .. } => Rest::OpenComment {
                 place: self.comment,
             },
-            _ => Rest::Blank,
+            Cut::Blank => Rest::Blank,
+            Cut::Command { .. } => Rest::Blank,
+            Cut::LongCommand { .. } => Rest::Blank,
         }
     }
 }

@@ -126,7 +126,8 @@ IsCounted before now WriteFault = Rose before now
 IsCounted before now _ = now ≡ before
 
 -- all pieces so far were read, and their answers taken
-pub record IsUnderway (p : Progress) (left left' taken taken' : Option (List ℕ)) : Type 0 where
+pub record IsUnderway (options : Options) (p : Progress) (left left' taken taken' : Option (List ℕ)) : Type 0 where
+  pub asked : p.options ≡ options
   pub read : List ℕ
   pub answers : List Reply
   pub answered : HasAnswered p read answers
