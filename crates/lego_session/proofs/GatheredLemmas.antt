@@ -1,5 +1,5 @@
 -- Bytes that are gathered and sent.
-use Rattle.std.proofs.Common.{◌≡◌, ℕ, ◌+◌, ◌≤◌, List, [], ◌∷◌, ◌++◌, length, take, Option, refl, sym, ap, ◌∙◌, subst, arith, append-nil, append_assoc, length-append}
+use Rattle.std.proofs.Common.{◌≡◌, ℕ, ◌+◌, ◌≤◌, List, [], ◌∷◌, ◌++◌, length, take, Option, Result, Ok, Err, OnErr, refl, sym, ap, ◌∙◌, subst, arith, append-nil, append_assoc, length-append}
 use Rattle.std.proofs.Math.Seq.{take-append_seam, take-append-add}
 use Rattle.std.proofs.lemmas.List.{take-append-le, take_all}
 use Rattle.std.specs.Io.KnownBytes.{Appends}
@@ -65,3 +65,12 @@ module _ (t t' : Option (List ℕ)) (gathered text : List ℕ) (g : Gathers t t'
 pub gathers_all : (t t' : Option (List ℕ)) (gathered text : List ℕ) → gathered ≡ [] → Gathers t t' gathered text → Appends t t' text
 gathers_all t t' gathered text e g =
     subst (Appends t t') (sym (g.parts ∙ (ap (λ xs. g.sent ++ xs) e ∙ append-nil g.sent))) g.written
+
+-- what holds anyway holds where a call failed
+pub on_err : {X E : Type 0} {P : Type 0} → (r : Result X E) → P → OnErr r P
+on_err (Ok x) p = tt
+on_err (Err e) p = p
+
+pub on_err-map : {X E : Type 0} {P Q : Type 0} → (r : Result X E) → (P → Q) → OnErr r P → OnErr r Q
+on_err-map (Ok x) f p = tt
+on_err-map (Err e) f p = f p

@@ -21,5 +21,6 @@ pub mod NearLemmas
 pub mod PendingLemmas
 pub mod GatheredLemmas
 pub mod RunLemmas
+pub mod ClosingLemmas
 pub mod ProgressLemmas
 pub mod OutcomeLemmas

@@ -68,7 +68,7 @@ module _ (options : Options) (p : Progress) (l l' t t' : Option (List ℕ)) (u :
       completed flag w is valid = record {
         bytes = u.read;
         run = run_of;
-        reading = IsReadFor.whole on whole;
+        reading = IsReadFor.to_end on whole;
         refusal = ap (λ b. b || is_ending_refused ending) (sym u.answered.refused) ∙ is;
         written = subst (Appends t t'') (sym (output_on (answers_text u.answers) (closing_text p.options.stop p.names p.session ending) _ on)) (Appends-trans t t' t'' _ _ u.written w);
         headline = λ _. valid;
@@ -238,7 +238,7 @@ module _ (limit : ℕ) (stop : Bool) (l l' t t' : Option (List ℕ)) (a : IsAcce
   no_refusal h = by_reading h.reading
     where
       by_reading : IsReadFor l l' h.run → ⊥
-      by_reading (IsReadFor.whole on r) = not_whole h.bytes h.run r h.refusal
+      by_reading (IsReadFor.to_end on r) = not_whole h.bytes h.run r h.refusal
       by_reading (IsReadFor.to_refused r) = not_to_refused h.bytes h.run r
 
   not_long : Overlong limit stop l l' t t' → ⊥

@@ -30,15 +30,17 @@ first_not : (stop : Bool) (a : Reply) (answers : List Reply) → (stop && a.refu
 first_not false a answers h = h
 first_not true a answers h = ap (λ r. r || some_refused answers) h
 
+-- a run of one command
+push_one : {limit : ℕ} {stop : Bool} {held last : Names} {old new : Session} (c : CommandText) (a : Reply) → Answers limit held old c a last new
+    → (b : Bool) → (stop && a.refused) ≡ b → Runs limit stop held old (c ∷ []) (a ∷ []) last new
+push_one c a h true k = Runs.stops [] h k
+push_one c a h false k = Runs.more h k Runs.none
+
 -- a run of one command more
 pub runs-push : {limit : ℕ} {stop : Bool} {held names last : Names} {old mid new : Session} {cs : List CommandText} {answers : List Reply} (c : CommandText) (a : Reply)
     → Runs limit stop held old cs answers names mid → ends_early stop answers ≡ false → Answers limit names mid c a last new
     → Runs limit stop held old (cs ++ c ∷ []) (answers ++ a ∷ []) last new
-runs-push {stop = stop} c a Runs.none e h = by_case (stop && a.refused) refl
-  where
-    by_case : (b : Bool) → (stop && a.refused) ≡ b → Runs _ stop _ _ (c ∷ []) (a ∷ []) _ _
-    by_case true k = Runs.stops [] h k
-    by_case false k = Runs.more h k Runs.none
+runs-push {stop = stop} c a Runs.none e h = push_one c a h (stop && a.refused) refl
 runs-push {stop = stop} c a (Runs.more {a = first} {answers = answers} g k r) e h = Runs.more g k (runs-push c a r (not_first stop first answers e) h)
 runs-push {stop = stop} c a (Runs.stops {a = first} others g k) e h = absurd (true≢false (sym (first_not stop first [] k) ∙ e))
 
@@ -59,15 +61,15 @@ module _ {limit : ℕ} {stop : Bool} {came : List ℕ} {answers : List Reply} {n
   -- one command more is answered
   pub reached_more : ends_early stop answers ≡ false → (bytes gap body : List ℕ) → Begins bytes (First.Command gap body []) → (a : Reply) (last : Names) (new : Session)
       → Answers limit names s (the_command (behind first_place came) gap body) a last new → Reached limit stop (came ++ bytes) (answers ++ a ∷ []) last new
-  reached_more on bytes gap body begins a last new step = record {
+  reached_more on bytes gap body begins a last new h = record {
     commands = r.commands ++ the_command (behind first_place came) gap body ∷ [];
     ended = ended_join first_place came bytes r.commands _ r.ended (one_ended (behind first_place came) bytes gap body begins);
-    runs = runs-push _ a r.runs on step;
+    runs = runs-push _ a r.runs on h;
     as_many = length-append answers (a ∷ []) ∙ (ap (λ n. n + 1) r.as_many ∙ sym (length-append r.commands (the_command (behind first_place came) gap body ∷ [])));
   }
 
   -- it is a run over the bytes so far, with what stands behind the last command
-  pub run_with : (read bytes : List ℕ) → read ≡ came ++ bytes → (ending : Ending) → Cuts (behind first_place came) bytes [] ending → Run limit stop first_place read
+  abbrev pub run_with : (read bytes : List ℕ) → read ≡ came ++ bytes → (ending : Ending) → Cuts (behind first_place came) bytes [] ending → Run limit stop first_place read
   run_with read bytes parts ending k = record {
     commands = r.commands ++ [];
     ending = ending;
@@ -78,7 +80,7 @@ module _ {limit : ℕ} {stop : Bool} {came : List ℕ} {answers : List Reply} {n
     runs = subst (λ (cs : List CommandText). Runs limit stop [] empty_session cs answers names s) (sym (append-nil r.commands)) r.runs;
   }
 
-  pub run_here : Run limit stop first_place came
+  abbrev pub run_here : Run limit stop first_place came
   run_here = record {
     commands = r.commands;
     ending = Whole;

@@ -1,6 +1,6 @@
 -- What a call of `run` did, by its status: how far it read, and what it wrote. These are seen by the bytes that the source had
 -- left and those that the sink had taken, before and behind it.
-use Rattle.std.specs.Prelude.{◌≡◌, ℕ, ◌<◌, ◌≤◌, Bool, true, false, ◌&&◌, List, [], ◌∷◌, ◌++◌, length, take, codes, decimal, Option, Some}
+use Rattle.std.specs.Prelude.{◌≡◌, ℕ, ◌+◌, ◌<◌, ◌≤◌, Bool, true, false, ◌&&◌, List, [], ◌∷◌, ◌++◌, length, take, codes, decimal, Option, Some}
 use Rattle.std.specs.Io.KnownBytes.{Appends, Consumes, IsAtEnd}
 use Rattle.lego_base.specs.Bytes.{AppendsFront}
 use Rattle.lego_lexer.specs.Commands.{HasEnded}
@@ -32,7 +32,7 @@ pub record IsReadToRefused (left left' : Option (List ℕ)) {limit : ℕ} {stop 
 
 -- how far is read where a run comes to its end
 pub data IsReadFor (left left' : Option (List ℕ)) {limit : ℕ} {stop : Bool} {bytes : List ℕ} (run : Run limit stop first_place bytes) : Type 0 where
-  whole : ends_early stop run.answers ≡ false → IsReadWhole left left' bytes → IsReadFor left left' run
+  to_end : ends_early stop run.answers ≡ false → IsReadWhole left left' bytes → IsReadFor left left' run
   to_refused : IsReadToRefused left left' run → IsReadFor left left' run
 
 -- The run came to its end, and all of its output was taken. Where `--stop` didn't end it, the development is printed.

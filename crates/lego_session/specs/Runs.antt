@@ -53,11 +53,13 @@ some_refused answers = list_any (λ a. a.refused) answers
 abbrev pub ends_early : Bool → List Reply → Bool
 ends_early stop answers = stop && some_refused answers
 
--- what follows the answers, where each command is answered: the refusal of the ending, and, unless `--stop` ends the run
--- with it, the development
+-- the development, unless `--stop` ends the run with what stands behind the last `;`
+abbrev pub developed : Bool → Names → Session → Ending → List ℕ
+developed stop names s ending = if stop && is_ending_refused ending then [] else development_text names (entries_of s)
+
+-- what follows the answers, where each command is answered: the refusal of the ending, and the development
 abbrev pub closing_text : Bool → Names → Session → Ending → List ℕ
-closing_text stop names s ending =
-    ending_text names s ending ++ (if stop && is_ending_refused ending then [] else development_text names (entries_of s))
+closing_text stop names s ending = ending_text names s ending ++ developed stop names s ending
 
 -- the answers, and what follows them
 abbrev pub output_of : {limit : ℕ} {stop : Bool} {place : Place} {bytes : List ℕ} → Run limit stop place bytes → List ℕ

@@ -1,12 +1,11 @@
 //! What is written behind the answers: the refusal of what stands behind the last `;`, and the
 //! development, entry by entry.
-ghost use Rattle.std.specs.Prelude.{◌≡◌, ◌++◌, [], ℕ, List, Option, IfOk, IfErr, OnOk, OnErr};
+ghost use Rattle.std.specs.Prelude.{◌≡◌, ◌++◌, ◌&&◌, [], ℕ, List, Option, IfOk, IfErr, OnOk, OnErr};
 ghost use Rattle.std.specs.Io.KnownBytes.{Appends};
 ghost use Rattle.lego_base.specs.Bytes.{AppendsFront};
-ghost use Rattle.lego_session.specs.Headline.{Headline};
 ghost use Rattle.lego_session.specs.Names.{IsKnownSession};
-ghost use Rattle.lego_session.specs.Runs.{ending_text, closing_text, is_ending_refused};
-ghost use Rattle.lego_session.specs.Sessions.{Session as TheSession, entries_of};
+ghost use Rattle.lego_session.specs.Runs.{ending_text, closing_text, developed, is_ending_refused};
+ghost use Rattle.lego_session.specs.Sessions.{Session as TheSession};
 ghost use Rattle.lego_session.specs.Texts.{development_text, entry_command};
 ghost use Rattle.lego_session.specs.private.Gathered.{Gathers, HasFailed};
 ghost use Rattle.lego_session.specs.private.Pending.{ending_of};
@@ -63,6 +62,8 @@ impl Progress {
         ensures finished { IsFinished self.now.options.stop self.now.names self.now.session self.now.refused (ending_of rest) (K.taken out.old) (K.taken out.new) result }
         ensures counted { IsCounted (K.faults out.old) (K.faults out.new) result }
     {
+        // So the development reads back as the entries.
+        let _context = self.session.context();
         match self.close(alloc, rest, gathered, out) {
             Err(status) => status,
             Ok(()) if self.refused || rest.is_refused() => Status::Refused,
@@ -82,19 +83,41 @@ impl Progress {
         requires sent { gathered.old.text.items ≡ [] }
         ensures ok { OnOk result (Appends (K.taken out.old) (K.taken out.new) (closing_text self.now.options.stop self.now.names self.now.session (ending_of rest))) }
         ensures err { OnErr result (AppendsFront (K.taken out.old) (K.taken out.new) (closing_text self.now.options.stop self.now.names self.now.session (ending_of rest))) }
-        ensures headline { Headline self.now.names (entries_of self.now.session) }
         ensures kept { OnOk result (K.faults out.new ≡ K.faults out.old) }
         ensures cause { IfErr result (λ status. HasFailed (K.faults out.old) (K.faults out.new) status) }
     {
-        let context = self.session.context();
         let Ok(refusal) = rest.refusal(alloc, &self.names) else {
             return Err(Status::Memory);
         };
         gathered.push(refusal.as_slice(), out)?;
-        if !(self.options.stop && rest.is_refused()) {
-            push_development(alloc, &self.names, context, gathered, out)?;
-        }
+        self.develop(alloc, rest, gathered, out)?;
         gathered.send(out)
+    }
+
+    /// Gathers the development, unless `--stop` ends the run behind the last command.
+    fn develop<K: Sink>(
+        &self,
+        alloc: Global,
+        rest: Rest,
+        gathered: &mut Gathered,
+        out: &mut K,
+    ) -> Result<(), Status>
+        ensures ok { OnOk result ((start : Option (List ℕ)) (text : List ℕ) → Gathers start (K.taken out.old) gathered.old.text.items text → Gathers start (K.taken out.new) gathered.new.text.items (text ++ developed self.now.options.stop self.now.names self.now.session (ending_of rest))) }
+        ensures err { OnErr result ((start : Option (List ℕ)) (text : List ℕ) → Gathers start (K.taken out.old) gathered.old.text.items text → AppendsFront start (K.taken out.new) (text ++ developed self.now.options.stop self.now.names self.now.session (ending_of rest))) }
+        ensures kept { OnOk result (K.faults out.new ≡ K.faults out.old) }
+        ensures cause { IfErr result (λ status. HasFailed (K.faults out.old) (K.faults out.new) status) }
+    {
+        if self.stops_at(rest) {
+            return Ok(());
+        }
+        push_development(alloc, &self.names, self.session.context(), gathered, out)
+    }
+
+    /// Whether `--stop` ends the run at what stands behind the last command.
+    fn stops_at(&self, rest: Rest) -> bool
+        ensures { result ≡ (self.now.options.stop && is_ending_refused (ending_of rest)) }
+    {
+        self.options.stop && rest.is_refused()
     }
 }
 

@@ -1,5 +1,5 @@
 //! The progress of a run: each command is answered when its end was read.
-ghost use Rattle.std.specs.Prelude.{◌≡◌, ◌<◌, ◌≤◌, ◌+◌, ◌++◌, [], ℕ, List, false, length, take, IfSome, IfOk, IfErr, OnOk};
+ghost use Rattle.std.specs.Prelude.{◌≡◌, ◌<◌, ◌≤◌, ◌+◌, ◌++◌, [], ℕ, List as Items, length, IfSome, IfOk, IfErr, OnOk};
 ghost use Rattle.lego_lexer.specs.Commands.{IsCommandText, Cuts};
 ghost use Rattle.lego_session.specs.Names.{IsKnownSession};
 ghost use Rattle.lego_session.specs.Answers.{Answers};
@@ -57,19 +57,22 @@ impl Progress {
         ensures fresh { HasAnswered result [] [] }
         ensures asked { result.options ≡ options }
     {
+        let pending = Pending::new(alloc);
+        let names = Names::new(alloc);
+        let session = Session::new(alloc);
         Progress {
             alloc,
             options,
-            pending: Pending::new(alloc),
-            names: Names::new(alloc),
-            session: Session::new(alloc),
+            pending,
+            names,
+            session,
             refused: false,
         }
     }
 
     /// What stands behind the last command, where no more bytes come.
     pub(crate) fn rest(&self) -> Rest
-        ensures { (read : List ℕ) (answers : List Reply) (h : HasAnswered self.now read answers) → Cuts (behind first_place h.came) h.bytes [] (ending_of result) }
+        ensures { (read : Items ℕ) (answers : Items Reply) (h : HasAnswered self.now read answers) → Cuts (behind first_place h.came) h.bytes [] (ending_of result) }
     {
         self.pending.rest()
     }
@@ -82,7 +85,7 @@ impl Progress {
         requires text { count ≤ MAX_COMMAND → IsCommandText self.old.pending.kept.items }
         requires few { count ≤ MAX_COMMAND → length self.old.pending.kept.items ≤ count }
         ensures others { self.new ≡ record self.old { names = self.new.names; session = self.new.session } }
-        ensures answered { IfSome result (λ a. (bytes : List ℕ) → count ≡ length bytes → (count ≤ MAX_COMMAND → self.old.pending.kept.items ≡ bytes) → Answers self.old.options.steps self.old.names self.old.session (record { place = self.old.pending.first; bytes = bytes }) (record { refused = a.refused; text = a.text }) self.new.names self.new.session) }
+        ensures answered { IfSome result (λ a. (bytes : Items ℕ) → count ≡ length bytes → (count ≤ MAX_COMMAND → self.old.pending.kept.items ≡ bytes) → Answers self.old.options.steps self.old.names self.old.session (record { place = self.old.pending.first; bytes = bytes }) (record { refused = a.refused; text = a.text }) self.new.names self.new.session) }
         ensures still_known { IfSome result (λ a. IsKnownSession self.new.names self.new.session) }
     {
         let place = self.pending.first;
@@ -105,7 +108,7 @@ impl Progress {
         requires some { HasAnsweredSome self.old }
         requires goes_on { MayGoOn self.old }
         requires few { self.old.pending.cutter.fed + length bytes.now ≤ MAX_SCRIPT }
-        ensures next { IfSome result (λ next. (read : List ℕ) (answers : List Reply) → HasAnswered self.old read answers → IsNext self.new read answers bytes.now next) }
+        ensures next { IfSome result (λ next. (read : Items ℕ) (answers : Items Reply) → HasAnswered self.old read answers → IsNext self.new read answers bytes.now next) }
         ensures within { IfSome result (λ next. IsNextWithin bytes.now next) }
         ensures asked { self.new.options ≡ self.old.options }
     {
@@ -136,8 +139,8 @@ impl Progress {
         requires goes_on { MayGoOn self.old }
         requires few { self.old.pending.cutter.fed + length piece.now ≤ MAX_SCRIPT }
         requires sent { gathered.old.text.items ≡ [] }
-        ensures ok { IfOk result (λ flow. (read : List ℕ) (answers : List Reply) → HasAnswered self.old read answers → IsFlow self.new read answers piece.now gathered.new.text.items (K.taken out.old) (K.taken out.new) flow) }
-        ensures err { IfErr result (λ status. (read : List ℕ) (answers : List Reply) → HasAnswered self.old read answers → IsHalted self.old.options answers (read ++ piece.now) (K.taken out.old) (K.taken out.new)) }
+        ensures ok { IfOk result (λ flow. (read : Items ℕ) (answers : Items Reply) → HasAnswered self.old read answers → IsFlow self.new read answers piece.now gathered.new.text.items (K.taken out.old) (K.taken out.new) flow) }
+        ensures err { IfErr result (λ status. (read : Items ℕ) (answers : Items Reply) → HasAnswered self.old read answers → IsHalted self.old.options answers (read ++ piece.now) (K.taken out.old) (K.taken out.new)) }
         ensures kept { OnOk result (K.faults out.new ≡ K.faults out.old) }
         ensures cause { IfErr result (λ status. HasFailed (K.faults out.old) (K.faults out.new) status) }
         ensures asked { self.new.options ≡ self.old.options }
@@ -175,8 +178,8 @@ impl Progress {
         requires goes_on { MayGoOn self.old }
         requires few { self.old.pending.cutter.fed ≤ MAX_SCRIPT }
         requires sent { gathered.old.text.items ≡ [] }
-        ensures ok { OnOk result ((read : List ℕ) (answers : List Reply) → HasAnswered self.old read answers → IsPassed self.new read answers piece.now (K.taken out.old) (K.taken out.new)) }
-        ensures err { IfErr result (λ status. (read : List ℕ) (answers : List Reply) → HasAnswered self.old read answers → IsEnded self.new read answers piece.now (K.taken out.old) (K.taken out.new) status) }
+        ensures ok { OnOk result ((read : Items ℕ) (answers : Items Reply) → HasAnswered self.old read answers → IsPassed self.new read answers piece.now (K.taken out.old) (K.taken out.new)) }
+        ensures err { IfErr result (λ status. (read : Items ℕ) (answers : Items Reply) → HasAnswered self.old read answers → IsEnded self.new read answers piece.now (K.taken out.old) (K.taken out.new) status) }
         ensures none { OnOk result (gathered.new.text.items ≡ []) }
         ensures kept { OnOk result (K.faults out.new ≡ K.faults out.old) }
         ensures cause { IfErr result (λ status. IsCounted (K.faults out.old) (K.faults out.new) status) }
