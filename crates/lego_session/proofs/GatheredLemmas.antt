@@ -1,5 +1,5 @@
 -- Bytes that are gathered and sent.
-use Rattle.std.proofs.Common.{◌≡◌, ℕ, ◌+◌, ◌≤◌, List, [], ◌∷◌, ◌++◌, length, take, Option, Result, Ok, Err, OnErr, refl, sym, ap, ◌∙◌, subst, arith, append-nil, append_assoc, length-append}
+use Rattle.std.proofs.Common.{◌≡◌, ℕ, ◌+◌, ◌≤◌, List, [], ◌∷◌, ◌++◌, length, take, Option, Result, Ok, Err, OnOk, OnErr, IfErr, refl, sym, ap, ◌∙◌, subst, arith, append-nil, append_assoc, length-append}
 use Rattle.std.proofs.Math.Seq.{take-append_seam, take-append-add}
 use Rattle.std.proofs.lemmas.List.{take-append-le, take_all}
 use Rattle.std.specs.Io.KnownBytes.{Appends}
@@ -74,3 +74,11 @@ on_err (Err e) p = p
 pub on_err-map : {X E : Type 0} {P Q : Type 0} → (r : Result X E) → (P → Q) → OnErr r P → OnErr r Q
 on_err-map (Ok x) f p = tt
 on_err-map (Err e) f p = f p
+
+pub on_ok-both : {X E : Type 0} {P Q R : Type 0} → (r : Result X E) → (P → Q → R) → OnOk r P → OnOk r Q → OnOk r R
+on_ok-both (Ok x) f p q = f p q
+on_ok-both (Err e) f p q = tt
+
+pub if_err : {X E : Type 0} {P : Type 0} → (r : Result X E) → P → IfErr r (λ _. P)
+if_err (Ok x) p = tt
+if_err (Err e) p = p

@@ -4,7 +4,7 @@ use Rattle.std.specs.Prelude.{◌⊎◌}
 use Rattle.std.proofs.lemmas.Bool.{false≢true}
 use Rattle.std.proofs.lemmas.List.{take_all, take-append-drop}
 use Rattle.std.specs.Io.KnownBytes.{Appends, Consumes, IsAtEnd, Keeps}
-use Rattle.std.proofs.KnownBytes.{Appends-trans, Consumes-trans, Consumes-kept}
+use Rattle.std.proofs.KnownBytes.{Appends-nil, Appends-trans, Consumes-nil, Consumes-trans, Consumes-kept}
 use Rattle.lego_base.specs.Bytes.{AppendsFront}
 use Rattle.lego_base.specs.Causes.{Rose}
 use Rattle.lego_base.specs.Place.{behind}
@@ -17,7 +17,7 @@ use Rattle.lego_session.specs.Headline.{Headline}
 use Rattle.lego_session.specs.Step.{Reply}
 use Rattle.lego_session.specs.Texts.{first_place}
 use Rattle.lego_session.specs.Outcomes.{IsReadWhole, IsReadFor, IsReadToRefused, Completed, AnswersAll, Broken, Overlong, IsCutAmongAnswers, IsCutInClosing, CutOff, Outcome, IsAcceptable}
-use Rattle.lego_session.specs.private.Progress.{HasAnswered, MayGoOn, IsUnderway, IsFinished, IsPassed, IsEnded, IsStopped, IsHalted, IsOverlong}
+use Rattle.lego_session.specs.private.Progress.{HasAnswered, HasAnsweredSome, IsUnderway, IsFinished, IsPassed, IsEnded, IsStopped, IsHalted, IsOverlong}
 use Rattle.lego_session.specs.Runs.{Run, Runs, answers_text, closing_text, output_of, refuses, some_refused, ends_early, is_ending_refused}
 use Rattle.lego_session.specs.declared.progress.Progress.{Progress}
 use Rattle.lego_session.specs.declared.status.Status.{Status}
@@ -41,6 +41,25 @@ output_early : (answers closing : List ℕ) (early : Bool) → early ≡ true �
 output_early answers closing early e = ap (λ b. answers ++ (if b then [] else closing)) e ∙ append-nil answers
 
 -- nothing was read yet
+pub underway_first : (options : Options) (p : Progress) (l t : Option (List ℕ)) → p.options ≡ options → HasAnswered p [] [] → IsUnderway options p l l t t
+underway_first options p l t asked h = record {
+  asked = asked;
+  read = [];
+  answers = [];
+  answered = h;
+  goes_on = ap (λ r. p.options.stop && r) h.refused ∙ and_none p.options.stop;
+  few = omega arith;
+  consumed = Consumes-nil l;
+  written = Appends-nil t;
+}
+  where
+    and_none : (b : Bool) → (b && false) ≡ false
+    and_none true = refl
+    and_none false = refl
+
+pub some_underway : (options : Options) (p : Progress) (l l' t t' : Option (List ℕ)) → IsUnderway options p l l' t t' → HasAnsweredSome p
+some_underway options p l l' t t' u = record { read = u.read; answers = u.answers; answered = u.answered }
+
 module _ (options : Options) (p : Progress) (l l' t t' : Option (List ℕ)) (u : IsUnderway options p l l' t t') where
   on : ends_early p.options.stop u.answers ≡ false
   on = ap (λ r. p.options.stop && r) (sym u.answered.refused) ∙ u.goes_on
@@ -238,7 +257,7 @@ module _ (limit : ℕ) (stop : Bool) (l l' t t' : Option (List ℕ)) (a : IsAcce
   no_refusal h = by_reading h.reading
     where
       by_reading : IsReadFor l l' h.run → ⊥
-      by_reading (IsReadFor.to_end on r) = not_whole h.bytes h.run r h.refusal
+      by_reading (IsReadFor.to_end _ r) = not_whole h.bytes h.run r h.refusal
       by_reading (IsReadFor.to_refused r) = not_to_refused h.bytes h.run r
 
   not_long : Overlong limit stop l l' t t' → ⊥

@@ -1,7 +1,7 @@
 -- Commands that end in a piece are answered.
 use Rattle.std.proofs.Common.{◌≡◌, ℕ, ◌+◌, ◌-◌, ◌≤◌, ◌<◌, min, nat_lt, Bool, true, false, ◌||◌, ◌&&◌, List, [], ◌∷◌, ◌++◌, length, take, drop, Option, refl, sym, ap, ◌∙◌, subst, arith, append-nil, append_assoc, length-append, length-take, length-drop}
 use Rattle.std.proofs.lemmas.Bool.{ltb-true, ltb-false}
-use Rattle.std.proofs.lemmas.List.{take_all, take-append-drop, append_cancel_right}
+use Rattle.std.proofs.lemmas.List.{take_all, take-take, take-append-drop, append_cancel_right}
 use Rattle.std.proofs.lemmas.List.Folds.{drop_split}
 use Rattle.std.proofs.Math.Seq.{take-append-add}
 use Rattle.lego_base.specs.Bytes.{AppendsFront}
@@ -9,7 +9,7 @@ use Rattle.lego_base.specs.Causes.{Rose}
 use Rattle.lego_base.specs.Place.{behind}
 use Rattle.lego_base.specs.declared.place.Place.{Place}
 use Rattle.lego_base.proofs.PlaceLemmas.{behind-append}
-use Rattle.lego_lexer.specs.Commands.{IsCommandText}
+use Rattle.lego_lexer.specs.Commands.{IsCommandText, Cuts, Ending}
 use Rattle.lego_lexer.proofs.Fronts.{parts, text_is}
 use Rattle.lego_words.specs.declared.options.Options.{Options}
 use Rattle.lego_session.specs.Answers.{Answers}
@@ -19,7 +19,7 @@ use Rattle.lego_session.specs.Step.{Reply}
 use Rattle.lego_session.specs.Texts.{first_place}
 use Rattle.lego_session.specs.private.Pending.{IsNear, IsPending, IsSomePending, HasEndedHere}
 use Rattle.lego_session.specs.private.Gathered.{Gathers, HasFailed}
-use Rattle.lego_session.specs.private.Progress.{Reached, HasAnswered, HasJustAnswered, HasAnsweredSome, MayGoOn, IsNext, IsFlow, IsStopped, IsHalted, IsEnded, IsCounted}
+use Rattle.lego_session.specs.private.Progress.{Reached, HasAnswered, HasJustAnswered, HasAnsweredSome, MayGoOn, IsNext, IsFlow, IsStopped, IsHalted, IsPassed, IsEnded, IsCounted}
 use Rattle.lego_session.specs.declared.pending.Pending.{Pending}
 use Rattle.lego_session.specs.declared.progress.Flow.{Flow}
 use Rattle.lego_session.specs.declared.progress.Next.{Next}
@@ -28,7 +28,7 @@ use Rattle.lego_session.specs.declared.status.Status.TheVariants.{Accepted, Refu
 use Rattle.lego_session.specs.declared.progress.Progress.{Progress}
 use Rattle.lego_session.proofs.NearLemmas.{near_first}
 use Rattle.lego_session.proofs.PendingLemmas.{from_on}
-use Rattle.lego_session.proofs.GatheredLemmas.{gathers_none, gathers_front}
+use Rattle.lego_session.proofs.GatheredLemmas.{gathers_none, gathers_front, gathers_all}
 use Rattle.lego_session.proofs.RunLemmas.{reached_more, refused-push, text-push, text-one}
 
 module _ {p : Progress} {read : List ℕ} {answers : List Reply} (h : HasAnswered p read answers) where
@@ -176,6 +176,16 @@ module _ (p p' : Progress) (piece gathered : List ℕ) (t t' : Option (List ℕ)
         written = gathers_front t t' gathered (answers_text g.more) g.gathers;
       }
 
+  -- all of the piece was
+  pub flows_all : length piece ≤ at → MayGoOn p' → (read : List ℕ) (answers : List Reply) → HasAnswered p read answers → IsFlow p' read answers piece gathered t t' Flow.GoesOn
+  flows_all all on read answers h =
+      let g = so read answers h in (
+        g.more,
+        subst (λ xs. HasAnswered p' (read ++ xs) (answers ++ g.more)) (take_all at piece all) g.answered,
+        on,
+        g.gathers,
+      )
+
   module _ (p'' : Progress) (same : p''.options ≡ p'.options) where
     -- the rest of the piece was read
     pub flows_on : MayGoOn p' → ((r : List ℕ) (rs : List Reply) → HasAnswered p' r rs → HasAnswered p'' (r ++ take (length piece - at) (drop at piece)) rs)
@@ -316,3 +326,73 @@ module _ (p p' : Progress) (same : p'.options ≡ p.options) (piece front gather
     reached = f.1.answered.reached;
     written = cut t (answers_text f.0) f.2;
   }
+
+-- a piece, of which so many bytes are within the limit
+module _ (p p' : Progress) (same : p'.options ≡ p.options) (piece : List ℕ) (count : ℕ) (t t' t'' : Option (List ℕ)) (read : List ℕ) (answers : List Reply) (h : HasAnswered p read answers)
+    (few : p.pending.cutter.fed ≤ 16777216) (count_is : count ≡ min (length piece) (16777216 - p.pending.cutter.fed)) where
+  limit_is : read ++ take count piece ≡ take 16777216 (read ++ piece)
+  limit_is = ap (λ n. read ++ take n piece) count_is ∙ within_limit read piece p.pending.cutter.fed (fed_is h) few
+
+  short : length (read ++ take count piece) ≤ 16777216
+  short = omega (arith, count_is, fed_is h, few, length-append read (take count piece), length-take count piece)
+
+  -- its answers are cut
+  pub pass_cut : (before now : ℕ) (status : Status) → HasFailed before now status → IsHalted p.options answers (read ++ take count piece) t t' → IsEnded p' read answers piece t t' status
+  pass_cut before now status f cut =
+      ended_by p' read answers piece t t' before now status f
+      (subst (λ (o : Options). IsHalted o answers (take 16777216 (read ++ piece)) t t') (sym same) (subst (λ xs. IsHalted p.options answers xs t t') limit_is cut))
+
+  module _ (gathered : List ℕ) where
+    -- they are cut when they are sent
+    pub pass_cut_sending : (flow : Flow) → IsFlow p' read answers (take count piece) gathered t t' flow
+        → ((start : Option (List ℕ)) (all : List ℕ) → Gathers start t' gathered all → AppendsFront start t'' all)
+        → (before now : ℕ) (status : Status) → HasFailed before now status → IsEnded p' read answers piece t t'' status
+    pass_cut_sending flow f cut before now status failed =
+        ended_by p' read answers piece t t'' before now status failed
+        (halted_sending p p' same piece (take count piece) gathered t t' t'' read answers limit_is flow f cut)
+
+    module _ (gathered' : List ℕ) (none : gathered' ≡ []) (sent : (start : Option (List ℕ)) (all : List ℕ) → Gathers start t' gathered all → Gathers start t'' gathered' all) where
+      -- the run is stopped at one
+      pub pass_stops : IsFlow p' read answers (take count piece) gathered t t' Flow.Stops → IsEnded p' read answers piece t t'' Refused
+      pass_stops f =
+          let s = f.1 in
+          let inside : s.used ≤ count = omega (arith, s.within, length-take count piece) in
+          let there : take s.used (take count piece) ≡ take s.used piece = take-take s.used count piece inside in (
+            f.0,
+            record {
+              used = s.used;
+              some = s.some;
+              within = omega (arith, s.within, length-take count piece);
+              answered = subst (λ xs. HasJustAnswered p' (read ++ xs) (answers ++ f.0)) there s.answered;
+              stops = s.stops;
+            },
+            omega (arith, short, s.within, length-append read (take count piece), length-append read (take s.used piece), length-take s.used piece, length-take count piece),
+            gathers_all t t'' gathered' (answers_text f.0) none (sent t (answers_text f.0) f.2),
+          )
+
+      -- the piece goes past the limit
+      pub pass_overlong : IsFlow p' read answers (take count piece) gathered t t' Flow.GoesOn → length (take count piece) < length piece
+          → (ending : Ending) → ((r : List ℕ) (rs : List Reply) (k : HasAnswered p' r rs) → Cuts (behind first_place k.came) k.bytes [] ending) → IsEnded p' read answers piece t t'' TooLong
+      pass_overlong f long ending rest =
+          let answered : HasAnswered p' (take 16777216 (read ++ piece)) (answers ++ f.0) = subst (λ xs. HasAnswered p' xs (answers ++ f.0)) limit_is f.1 in
+          record {
+            more = f.0;
+            answered = answered;
+            ending = ending;
+            rest = rest (take 16777216 (read ++ piece)) (answers ++ f.0) answered;
+            goes_on = f.2;
+            many = omega (arith, long, count_is, few, fed_is h, length-append read piece, length-take count piece);
+            written = gathers_all t t'' gathered' (answers_text f.0) none (sent t (answers_text f.0) f.3);
+          }
+
+      -- all of it is within the limit
+      pub pass_on : IsFlow p' read answers (take count piece) gathered t t' Flow.GoesOn → length piece ≤ length (take count piece) → IsPassed p' read answers piece t t''
+      pass_on f all =
+          let whole : take count piece ≡ piece = take_all count piece (omega (arith, all, length-take count piece)) in
+          record {
+            more = f.0;
+            answered = subst (λ xs. HasAnswered p' (read ++ xs) (answers ++ f.0)) whole f.1;
+            goes_on = f.2;
+            few = subst (λ xs. length (read ++ xs) ≤ 16777216) whole short;
+            written = gathers_all t t'' gathered' (answers_text f.0) none (sent t (answers_text f.0) f.3);
+          }

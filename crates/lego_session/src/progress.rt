@@ -1,5 +1,5 @@
 //! The progress of a run: each command is answered when its end was read.
-ghost use Rattle.std.specs.Prelude.{◌≡◌, ◌<◌, ◌≤◌, ◌+◌, ◌++◌, [], ℕ, List as Items, length, IfSome, IfOk, IfErr, OnOk};
+ghost use Rattle.std.specs.Prelude.{◌≡◌, ◌<◌, ◌≤◌, ◌+◌, ◌++◌, ◌&&◌, [], ℕ, List as Items, length, IfSome, IfOk, IfErr, OnOk};
 ghost use Rattle.lego_lexer.specs.Commands.{IsCommandText, Cuts};
 ghost use Rattle.lego_session.specs.Names.{IsKnownSession};
 ghost use Rattle.lego_session.specs.Answers.{Answers};
@@ -102,6 +102,13 @@ impl Progress {
         )
     }
 
+    /// Whether `--stop` ends the run.
+    fn stops(&self) -> bool
+        ensures { result ≡ (self.now.options.stop && self.now.refused) }
+    {
+        self.options.stop && self.refused
+    }
+
     /// Takes the next bytes up to the end of a command, which is answered, or all; `None` where
     /// memory ran out.
     fn answer_next(&mut self, bytes: &[u8]) -> Option<Next>
@@ -147,15 +154,17 @@ impl Progress {
     {
         let mut at = 0;
         while at < piece.len() {
-            match self.answer_next(&piece[at..]) {
-                None => return Err(Status::Memory),
-                Some(Next::More) => return Ok(Flow::GoesOn),
-                Some(Next::Answer { used, text }) => {
+            let Some(next) = self.answer_next(&piece[at..]) else {
+                return Err(Status::Memory);
+            };
+            match next {
+                Next::More => return Ok(Flow::GoesOn),
+                Next::Answer { used, text } => {
                     at += used;
                     gathered.push(text.items(), out)?;
                 }
             }
-            if self.options.stop && self.refused {
+            if self.stops() {
                 return Ok(Flow::Stops);
             }
         }
@@ -187,15 +196,22 @@ impl Progress {
     {
         let room = MAX_SCRIPT.saturating_sub(self.pending.fed());
         let within = &piece[..piece.len().min(room)];
-        let flow = self.answer_piece(within, gathered, out)?;
-        gathered.send(out)?;
+        let flow = match self.answer_piece(within, gathered, out) {
+            Ok(flow) => flow,
+            Err(status) => return Err(status),
+        };
+        if let Err(status) = gathered.send(out) {
+            return Err(status);
+        }
         match flow {
             Flow::Stops => Err(Status::Refused),
-            Flow::GoesOn if within.len() < piece.len() => {
-                let _rest = self.rest();
-                Err(Status::TooLong)
+            Flow::GoesOn => {
+                if within.len() < piece.len() {
+                    let _rest = self.rest();
+                    return Err(Status::TooLong);
+                }
+                Ok(())
             }
-            Flow::GoesOn => Ok(()),
         }
     }
 }

@@ -4,8 +4,7 @@ use Rattle.lego_base.specs.Bytes.{AppendsFront}
 use Rattle.lego_session.specs.Runs.{ending_text, developed}
 use Rattle.lego_session.specs.private.Gathered.{Gathers}
 use Rattle.lego_session.specs.private.Pending.{ending_of}
-use Rattle.lego_session.proofs.GatheredLemmas.{gathers_none, gathers_all, front_of_longer, on_err, on_err-map}
-use Rattle.lego_session.proofs.TextLemmas.{on_ok-map}
+use Rattle.lego_session.proofs.GatheredLemmas.{gathers_none, gathers_all, front_of_longer, on_ok-both, on_err, on_err-map}
 use Rattle.lego_session.proofs.progress.Progress.close.Goals as goal
 
 pub returns-in_err-push-clause-err : goal.returns-in_err-push-clause-err
@@ -35,7 +34,7 @@ returns-clause-ok g c =
     let text = c.as_slice.ensures.value ∙ c.in-Ok.ensures s in
     let pushed = subst (Gathers t t1 c.push.new.self.text.items) text (c.in_ok-push.ensures.ok t [] (gathers_none t c.args.gathered.now.text.items c.requires.sent)) in
     let developed = c.in_ok-develop.ensures.ok t _ pushed in
-    on_ok-map c.send.result (λ none. λ sent. gathers_all t (g.K.Sink.taken c.send.new.out) c.send.new.self.text.items _ none (sent t _ developed)) c.send.ensures.none
+    on_ok-both c.send.result (λ none sent. gathers_all t (g.K.Sink.taken c.send.new.out) c.send.new.self.text.items _ none (sent t _ developed)) c.send.ensures.none c.send.ensures.ok
 
 pub returns-clause-err : goal.returns-clause-err
 returns-clause-err g c =

@@ -1,0 +1,36 @@
+use Rattle.std.proofs.Common.{◌≡◌, ◌≤◌, ◌<◌, [], length, take, arith, subst, length-take}
+use Rattle.std.specs.Io.KnownBytes.{Consumes}
+use Rattle.lego_session.specs.private.Pending.{ending_of}
+use Rattle.lego_session.specs.private.Progress.{IsEnded}
+use Rattle.lego_session.proofs.OutcomeLemmas.{broken, finished, ended}
+use Rattle.lego_session.proofs.running.run_script.Goals as goal
+
+pub returns-in_default-clause-output : goal.returns-in_default-clause-output
+returns-in_default-clause-output g c =
+    let u = c.loop-count.invariant.underway in
+    broken c.args.options c.loop-count.progress (g.S.Source.left c.args.script.now) (g.S.Source.left c.loop-count.script) (g.K.Sink.taken c.args.out.now) (g.K.Sink.taken c.loop-count.out) u
+    (ending_of c.rest-rest.result) (c.rest-rest.ensures u.read u.answers u.answered) (g.S.Source.left c.read.new.self) c.in_default.ensures.bytes
+
+pub returns-then-count-eq0-clause-output : goal.returns-then-count-eq0-clause-output
+returns-then-count-eq0-clause-output g c =
+    let u = c.loop-count.invariant.underway in
+    let none : c.in-Ok.count ≡ 0 = omega (arith, c.if-count-eq0.true) in
+    let bytes = c.in-Ok.ensures.bytes in
+    finished c.args.options c.loop-count.progress (g.S.Source.left c.args.script.now) (g.S.Source.left c.loop-count.script) (g.K.Sink.taken c.args.out.now) (g.K.Sink.taken c.loop-count.out) u
+    (ending_of c.rest-rest.result) (c.rest-rest.ensures u.read u.answers u.answered) (g.S.Source.left c.read.new.self) (g.K.Sink.taken c.finish.new.out)
+    (subst (λ n. Consumes (g.S.Source.left c.loop-count.script) (g.S.Source.left c.read.new.self) (take n c.read.new.into)) none bytes.0)
+    (bytes.1 none (omega (arith, c.read.auto.into))) c.finish.result c.finish.ensures.finished
+
+pub returns-in-Err-clause-output : goal.returns-in-Err-clause-output
+returns-in-Err-clause-output g c =
+    let u = c.loop-count.invariant.underway in
+    ended c.args.options c.loop-count.progress (g.S.Source.left c.args.script.now) (g.S.Source.left c.loop-count.script) (g.K.Sink.taken c.args.out.now) (g.K.Sink.taken c.loop-count.out) u
+    (ending_of c.rest-rest.result) (c.rest-rest.ensures u.read u.answers u.answered) (g.S.Source.left c.read.new.self) (g.K.Sink.taken c.pass.new.out)
+    (take c.in-Ok.count c.read.new.into) c.in-Ok.ensures.bytes.0 (omega (arith, length-take c.in-Ok.count c.read.new.into, c.read.auto.into)) c.pass.new.self c.pass.ensures.asked
+    c.in-Err.status (c.in-Err.ensures.err u.read u.answers u.answered)
+
+pub returns-in-Err-clause-read : goal.returns-in-Err-clause-read
+returns-in-Err-clause-read g c = λ is.
+    let u = c.loop-count.invariant.underway in
+    absurd (subst (IsEnded c.pass.new.self u.read u.answers (take c.in-Ok.count c.read.new.into) (g.K.Sink.taken c.loop-count.out) (g.K.Sink.taken c.pass.new.out)) is
+    (c.in-Err.ensures.err u.read u.answers u.answered))
