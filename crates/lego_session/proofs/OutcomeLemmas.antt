@@ -23,7 +23,7 @@ use Rattle.lego_session.specs.declared.progress.Progress.{Progress}
 use Rattle.lego_session.specs.declared.status.Status.{Status}
 use Rattle.lego_session.specs.declared.status.Status.TheVariants.{Accepted, Refused, Usage, ReadFault, WriteFault, Memory, OpenProof, TooLong}
 use Rattle.lego_session.proofs.GatheredLemmas.{past_behind}
-use Rattle.lego_session.proofs.RunLemmas.{run_with, run_here, text-push}
+use Rattle.lego_session.proofs.RunLemmas.{reached_first, run_with, run_here, text-push}
 
 and_left : (a b : Bool) → (a && b) ≡ true → a ≡ true
 and_left true b h = refl
@@ -276,3 +276,26 @@ module _ (limit : ℕ) (stop : Bool) (l l' t t' : Option (List ℕ)) (a : IsAcce
   complete before now before' now' WriteFault o r w s k = absurd (k (w refl))
   complete before now before' now' Usage o r w s k = absurd o
   complete before now before' now' OpenProof o r w s k = absurd o
+
+-- nothing was read and nothing written
+pub nothing_done : (limit : ℕ) (stop : Bool) (l t : Option (List ℕ)) → CutOff limit stop l l t t
+nothing_done limit stop l t = CutOff.among_answers (record {
+  before = [];
+  piece = [];
+  consumed = Consumes-nil l;
+  short = omega arith;
+  near = omega arith;
+  done = run_here (reached_first limit stop);
+  goes_on = none stop;
+  came = [];
+  behind = [];
+  within = refl;
+  run = run_here (reached_first limit stop);
+  others = [];
+  answers = refl;
+  written = (0, omega arith, Appends-nil t);
+})
+  where
+    none : (b : Bool) → (b && false) ≡ false
+    none true = refl
+    none false = refl

@@ -61,6 +61,19 @@ fn send_usage<K: Sink>(index: u32, out: &mut K) -> Result<(), Failed>
     send(out, b"\n")
 }
 
+/// Refuses words, of which the first wrong one has this index.
+fn refuse_words<K: Sink>(index: u32, out: &mut K) -> Status
+    ensures output { UsageOutcome index (K.taken out.old) (K.taken out.new) result }
+    ensures write { result ≡ Status.WriteFault → Rose (K.faults out.old) (K.faults out.new) }
+    ensures sink { result ≢ Status.WriteFault → K.faults out.new ≡ K.faults out.old }
+    ensures read { result ≢ Status.ReadFault }
+{
+    match send_usage(index, out) {
+        Ok(()) => Status::Usage,
+        Err(Failed) => Status::WriteFault,
+    }
+}
+
 /// Runs a script, as the words behind a program's name ask for it: commands are answered one
 /// after the other, each when its end was read, and then what stands behind the last `;` is
 /// refused and the development is written, which reads back as the last entries. A script has at
@@ -90,10 +103,9 @@ pub fn run<S: Source, K: Sink>(
 {
     match read_words(alloc, words) {
         Ok(options) => run_script(alloc, options, script, out),
-        Err(WordsFault::Usage { index }) => match send_usage(index, out) {
-            Ok(()) => Status::Usage,
-            Err(Failed) => Status::WriteFault,
+        Err(fault) => match fault {
+            WordsFault::Usage { index } => refuse_words(index, out),
+            WordsFault::Memory => Status::Memory,
         },
-        Err(WordsFault::Memory) => Status::Memory,
     }
 }
