@@ -19,6 +19,10 @@ pub mod WrittenFormLemmas
 pub mod UnreadLemmas
 pub mod CommandLemmas
 pub mod AnswerLemmas
-pub mod CutLemmas
+pub mod NearLemmas
+pub mod PendingLemmas
+pub mod GatheredLemmas
 pub mod RunLemmas
+pub mod ClosingLemmas
+pub mod ProgressLemmas
 pub mod OutcomeLemmas

@@ -1,144 +1,301 @@
 -- What a call of `run` did, from what its parts did.
-use Rattle.std.proofs.Common.{◌≡◌, ℕ, ◌+◌, ◌≤◌, ◌<◌, min, nat_lt, Bool, true, false, ◌||◌, List, [], ◌++◌, length, take, Option, None, Some, refl, sym, ap, ◌∙◌, subst, inl, inr, arith, append-nil, length-append}
+use Rattle.std.proofs.Common.{◌≡◌, ℕ, ◌+◌, ◌≤◌, ◌<◌, Bool, true, false, ◌||◌, ◌&&◌, if◌then◌else◌, List, [], ◌∷◌, ◌++◌, length, take, drop, Option, None, Some, refl, sym, ap, ◌∙◌, subst, inl, inr, arith, append-nil, append_assoc, length-append, length-drop, length-take}
 use Rattle.std.specs.Prelude.{◌⊎◌}
-use Rattle.std.proofs.Math.Seq.{take-append-add}
-use Rattle.std.proofs.lemmas.Bool.{ltb-true, ltb-false, false≢true}
-use Rattle.std.proofs.lemmas.List.{take_all}
-use Rattle.std.specs.Io.KnownBytes.{Appends, Consumes, IsAtEnd}
-use Rattle.std.proofs.KnownBytes.{Appends-trans}
+use Rattle.std.proofs.lemmas.Bool.{false≢true}
+use Rattle.std.proofs.lemmas.List.{take_all, take-append-drop}
+use Rattle.std.specs.Io.KnownBytes.{Appends, Consumes, IsAtEnd, Keeps}
+use Rattle.std.proofs.KnownBytes.{Appends-nil, Appends-trans, Consumes-nil, Consumes-trans, Consumes-kept}
 use Rattle.lego_base.specs.Bytes.{AppendsFront}
 use Rattle.lego_base.specs.Causes.{Rose}
-use Rattle.lego_lexer.specs.Commands.{Ending}
+use Rattle.lego_base.specs.Place.{behind}
+use Rattle.lego_lexer.specs.Commands.{CommandText, Cuts, Ending, HasEnded}
+use Rattle.lego_lexer.proofs.CutsExist.{scripts_cut}
+use Rattle.lego_words.specs.declared.options.Options.{Options}
 use Rattle.lego_grammar.specs.Grammar.{Names}
-use Rattle.lego_session.specs.Sessions.{Session, entries_of}
+use Rattle.lego_session.specs.Sessions.{Session, empty_session, entries_of}
 use Rattle.lego_session.specs.Headline.{Headline}
-use Rattle.lego_session.specs.Outcomes.{Ended, AnswersFront, Broken, Overlong, Stopped, Outcome, IsAcceptable}
-use Rattle.lego_session.specs.private.Progress.{AreAnswered, Halted, Finished}
-use Rattle.lego_session.specs.Runs.{Run, answers_text, closing_text, refuses, is_ending_refused}
+use Rattle.lego_session.specs.Step.{Reply}
+use Rattle.lego_session.specs.Texts.{first_place}
+use Rattle.lego_session.specs.Outcomes.{IsReadWhole, IsReadFor, IsReadToRefused, Completed, AnswersAll, Broken, Overlong, IsCutAmongAnswers, IsCutInClosing, CutOff, Outcome, IsAcceptable}
+use Rattle.lego_session.specs.private.Progress.{HasAnswered, HasAnsweredSome, IsUnderway, IsFinished, IsPassed, IsEnded, IsStopped, IsHalted, IsOverlong}
+use Rattle.lego_session.specs.Runs.{Run, Runs, answers_text, closing_text, output_of, refuses, some_refused, ends_early, is_ending_refused}
+use Rattle.lego_session.specs.declared.progress.Progress.{Progress}
 use Rattle.lego_session.specs.declared.status.Status.{Status}
 use Rattle.lego_session.specs.declared.status.Status.TheVariants.{Accepted, Refused, Usage, ReadFault, WriteFault, Memory, OpenProof, TooLong}
+use Rattle.lego_session.proofs.GatheredLemmas.{past_behind}
+use Rattle.lego_session.proofs.RunLemmas.{reached_first, run_with, run_here, text-push}
 
--- the slice up to a length or a limit is the front up to that limit
-pub up_to : (n limit : ℕ) (slice items : List ℕ) → slice ≡ items → n ≡ min (length slice) limit → take n slice ≡ take limit items
-up_to n limit slice items same is =
-    let long : length slice ≡ length items = ap length same in
-    go (nat_lt limit (length items)) refl long
+and_left : (a b : Bool) → (a && b) ≡ true → a ≡ true
+and_left true b h = refl
+and_left false b h = h
+
+and_right : (a b : Bool) → (a && b) ≡ true → b ≡ true
+and_right true b h = h
+and_right false b h = absurd (false≢true h)
+
+-- the output where no command ends the run, and where one does
+output_on : (answers closing : List ℕ) (early : Bool) → early ≡ false → answers ++ (if early then [] else closing) ≡ answers ++ closing
+output_on answers closing early e = ap (λ b. answers ++ (if b then [] else closing)) e
+
+output_early : (answers closing : List ℕ) (early : Bool) → early ≡ true → answers ++ (if early then [] else closing) ≡ answers
+output_early answers closing early e = ap (λ b. answers ++ (if b then [] else closing)) e ∙ append-nil answers
+
+-- nothing was read yet
+pub underway_first : (options : Options) (p : Progress) (l t : Option (List ℕ)) → p.options ≡ options → HasAnswered p [] [] → IsUnderway options p l l t t
+underway_first options p l t asked h = record {
+  asked = asked;
+  read = [];
+  answers = [];
+  answered = h;
+  goes_on = ap (λ r. p.options.stop && r) h.refused ∙ and_none p.options.stop;
+  few = omega arith;
+  consumed = Consumes-nil l;
+  written = Appends-nil t;
+}
   where
-    go : (b : Bool) → nat_lt limit (length items) ≡ b → length slice ≡ length items → take n slice ≡ take limit items
-    go true e long = let l : limit < length items = ltb-true limit (length items) e in let at : n ≡ limit = omega (arith, is, long) in ap (λ m. take m slice) at ∙ ap (take limit) same
-    go false e long = let l : length items ≤ limit = ltb-false limit (length items) e in
-        take_all n slice (omega (arith, is, long)) ∙ (same ∙ sym (take_all limit items l))
+    and_none : (b : Bool) → (b && false) ≡ false
+    and_none true = refl
+    and_none false = refl
 
-abbrev run_of : {bytes : List ℕ} {names : Names} {es : Session} {refused : Bool} {ending : Ending} {t t1 : Option (List ℕ)}
-    → AreAnswered bytes names es refused ending t t1 → Run bytes
-run_of {names = names} {es = es} {ending = ending} h =
-    record { commands = h.commands; ending = ending; names = names; answers = h.answers; session = es; cut = h.cut; runs = h.runs }
+pub some_underway : (options : Options) (p : Progress) (l l' t t' : Option (List ℕ)) → IsUnderway options p l l' t t' → HasAnsweredSome p
+some_underway options p l l' t t' u = record { read = u.read; answers = u.answers; answered = u.answered }
 
--- a fault within an answer, or no memory for one
-pub halted : (bytes read : List ℕ) (l l' t t1 : Option (List ℕ)) (before now : ℕ) (status : Status)
-    → Consumes l l' read → bytes ≡ take 16777216 read → Halted bytes t t1 before now status → Outcome l l' t t1 status
-halted bytes read l l' t t1 before now Memory k e h = Stopped.among_answers read k (subst (λ (xs : List ℕ). AnswersFront xs t t1) e h)
-halted bytes read l l' t t1 before now WriteFault k e h = Stopped.among_answers read k (subst (λ (xs : List ℕ). AnswersFront xs t t1) e h.0)
-halted bytes read l l' t t1 before now Accepted k e h = absurd h
-halted bytes read l l' t t1 before now Refused k e h = absurd h
-halted bytes read l l' t t1 before now Usage k e h = absurd h
-halted bytes read l l' t t1 before now ReadFault k e h = absurd h
-halted bytes read l l' t t1 before now OpenProof k e h = absurd h
-halted bytes read l l' t t1 before now TooLong k e h = absurd h
+module _ (options : Options) (p : Progress) (l l' t t' : Option (List ℕ)) (u : IsUnderway options p l l' t t') where
+  on : ends_early p.options.stop u.answers ≡ false
+  on = ap (λ r. p.options.stop && r) (sym u.answered.refused) ∙ u.goes_on
 
--- all commands are answered
-module _ (bytes read : List ℕ) (l l' t t1 : Option (List ℕ)) (names : Names) (es : Session) (refused : Bool) (ending : Ending)
-    (k : Consumes l l' read) (e : bytes ≡ take 16777216 read) (answered : AreAnswered bytes names es refused ending t t1) where
-  moved : (xs : List ℕ) → bytes ≡ xs → AreAnswered xs names es refused ending t t1
-  moved xs same = subst (λ (ys : List ℕ). AreAnswered ys names es refused ending t t1) same answered
+  module _ (ending : Ending) (rest : Cuts (behind first_place u.answered.came) u.answered.bytes [] ending) where
+    abbrev run_of : Run p.options.steps p.options.stop first_place u.read
+    run_of = run_with u.answered.reached u.read u.answered.bytes u.answered.parts ending rest
 
-  pub overlong : 16777216 < length read → Overlong l l' t t1
-  overlong long =
-      let h = moved (take 16777216 read) e in
-      record { read = read; consumed = k; long = long; answers = record { run = run_of h; written = h.written } }
+    -- a read failed
+    pub broken : (l'' : Option (List ℕ)) → Keeps l' l'' → Broken options.steps options.stop l l'' t t'
+    broken l'' k = subst (λ (o : Options). Broken o.steps o.stop l l'' t t') u.asked (record {
+      read = u.read;
+      consumed = Consumes-kept l l' l'' u.read u.consumed k;
+      short = u.few;
+      answers = record { run = run_of; goes_on = on; written = u.written };
+    })
 
-  pub no_memory : Stopped l l' t t1
-  no_memory =
-      let h = moved (take 16777216 read) e in
-      let texts = answers_text h.answers in
-      Stopped.among_answers read k (record {
-        came = take 16777216 read;
-        more = [];
-        parts = sym (append-nil (take 16777216 read));
-        run = run_of h;
-        written = (length texts, omega arith, subst (Appends t t1) (sym (take_all (length texts) texts (omega arith))) h.written);
+    -- the end was read
+    module _ (l'' t'' : Option (List ℕ)) (consumed : Consumes l' l'' []) (z : IsAtEnd l'') where
+      whole : IsReadWhole l l'' u.read
+      whole = record { consumed = subst (Consumes l l'') (append-nil u.read) (Consumes-trans l l' l'' _ _ u.consumed consumed); at_end = z; short = u.few }
+
+      completed : (flag : Bool) → Appends t' t'' (closing_text p.options.stop p.names p.session ending) → (p.refused || is_ending_refused ending) ≡ flag
+          → Headline p.names (entries_of p.session) → Completed p.options.steps p.options.stop l l'' t t'' flag
+      completed flag w is valid = record {
+        bytes = u.read;
+        run = run_of;
+        reading = IsReadFor.to_end on whole;
+        refusal = ap (λ b. b || is_ending_refused ending) (sym u.answered.refused) ∙ is;
+        written = subst (Appends t t'') (sym (output_on (answers_text u.answers) (closing_text p.options.stop p.names p.session ending) _ on)) (Appends-trans t t' t'' _ _ u.written w);
+        headline = λ _. valid;
+      }
+
+      in_closing : AppendsFront t' t'' (closing_text p.options.stop p.names p.session ending) → CutOff p.options.steps p.options.stop l l'' t t''
+      in_closing f = CutOff.in_closing (record { bytes = u.read; reading = whole; run = run_of; goes_on = on; written = past_behind t t' t'' _ _ u.written f })
+
+      finished_so : (status : Status) → IsFinished p.options.stop p.names p.session p.refused ending t' t'' status → Outcome p.options.steps p.options.stop l l'' t t'' status
+      finished_so Accepted f = completed false f.0 f.1 f.2
+      finished_so Refused f = completed true f.0 f.1 f.2
+      finished_so WriteFault f = in_closing f
+      finished_so Memory f = in_closing f
+      finished_so Usage f = absurd f
+      finished_so ReadFault f = absurd f
+      finished_so OpenProof f = absurd f
+      finished_so TooLong f = absurd f
+
+      pub finished : (status : Status) → IsFinished p.options.stop p.names p.session p.refused ending t' t'' status → Outcome options.steps options.stop l l'' t t'' status
+      finished status f = subst (λ (o : Options). Outcome o.steps o.stop l l'' t t'' status) u.asked (finished_so status f)
+
+    -- the run ended at a piece
+    module _ (l'' t'' : Option (List ℕ)) (q : List ℕ) (consumed : Consumes l' l'' q) (near : length q ≤ 4096) where
+      all_consumed : Consumes l l'' (u.read ++ q)
+      all_consumed = Consumes-trans l l' l'' _ _ u.consumed consumed
+
+      cut_among : IsHalted p.options u.answers (take 16777216 (u.read ++ q)) t' t'' → CutOff p.options.steps p.options.stop l l'' t t''
+      cut_among h = CutOff.among_answers (record {
+        before = u.read;
+        piece = q;
+        consumed = all_consumed;
+        short = u.few;
+        near = near;
+        done = run_of;
+        goes_on = on;
+        came = h.came;
+        behind = h.behind;
+        within = h.within;
+        run = run_here h.reached;
+        others = h.more;
+        answers = refl;
+        written = past_behind t t' t'' _ _ u.written h.written;
       })
 
-  module _ (short : length read ≤ 16777216) where
-    here : AreAnswered read names es refused ending t t1
-    here = moved read (e ∙ take_all 16777216 read short)
+      module _ (p' : Progress) (same : p'.options ≡ p.options) where
+        stopped : (more : List Reply) (h : IsStopped p' u.read u.answers q more) → length (u.read ++ take h.used q) ≤ 16777216 → Appends t' t'' (answers_text more)
+            → Completed p'.options.steps p'.options.stop l l'' t t'' true
+        stopped more h short w =
+            let early : ends_early p'.options.stop (u.answers ++ more) ≡ true = ap (λ r. p'.options.stop && r) (sym h.answered.refused) ∙ h.stops in
+            let all = u.read ++ take h.used q in
+            let joined : (u.read ++ take h.used q) ++ drop h.used q ≡ u.read ++ q =
+            append_assoc u.read (take h.used q) (drop h.used q) ∙ ap (λ xs. u.read ++ xs) (take-append-drop h.used q) in
+            record {
+              bytes = u.read ++ take h.used q;
+              run = run_here h.answered.reached;
+              reading = IsReadFor.to_refused (record {
+                early = early;
+                last = h.answered.reached.as_many;
+                ended = h.answered.reached.ended;
+                front = h.answered.front;
+                with_semicolon = h.answered.with_semicolon;
+                short = short;
+                behind = drop h.used q;
+                consumed = subst (Consumes l l'') (sym joined) all_consumed;
+                near = omega (arith, near, h.some, h.within, length-drop h.used q);
+              });
+              refusal = ap (λ r. r || false) (and_right p'.options.stop (some_refused (u.answers ++ more)) early);
+              written = subst (Appends t t'') (sym (output_early (answers_text (u.answers ++ more)) _ _ early ∙ text-push u.answers more)) (Appends-trans t t' t'' _ _ u.written w);
+              headline = λ none. absurd (false≢true (sym none ∙ ap (λ b. b && true) (and_left p'.options.stop (some_refused (u.answers ++ more)) early)));
+            }
 
-    pub broken : Broken l l' t t1
-    broken = let h = here in record { read = read; consumed = k; short = short; answers = record { run = run_of h; written = h.written } }
+        overlong : IsOverlong p' u.read u.answers q t' t'' → Overlong p'.options.steps p'.options.stop l l'' t t''
+        overlong h = record {
+          read = u.read ++ q;
+          consumed = all_consumed;
+          long = h.many;
+          near = omega (arith, u.few, near, length-append u.read q);
+          answers = record {
+            run = run_with h.answered.reached (take 16777216 (u.read ++ q)) h.answered.bytes h.answered.parts h.ending h.rest;
+            goes_on = ap (λ r. p'.options.stop && r) (sym h.answered.refused) ∙ h.goes_on;
+            written = subst (Appends t t'') (sym (text-push u.answers h.more)) (Appends-trans t t' t'' _ _ u.written h.written);
+          };
+        }
 
-    module _ (t2 : Option (List ℕ)) (z : IsAtEnd l') where
-      ended : (flag : Bool) → Appends t1 t2 (closing_text names es ending) → Headline names (entries_of es) → (refused || is_ending_refused ending) ≡ flag → Ended l l' t t2 flag
-      ended flag w valid is =
-          let h = here in
-          record {
-            read = read;
-            consumed = k;
-            at_end = z;
-            short = short;
-            run = run_of h;
-            refusal = ap (λ b. b || is_ending_refused ending) h.refusal ∙ is;
-            written = Appends-trans t t1 t2 _ _ h.written w;
-            headline = valid;
-          }
+        ended_so : (status : Status) → IsEnded p' u.read u.answers q t' t'' status → Outcome p.options.steps p.options.stop l l'' t t'' status
+        ended_so Refused e = subst (λ (o : Options). Completed o.steps o.stop l l'' t t'' true) same (stopped e.0 e.1 e.2 e.3)
+        ended_so TooLong e = subst (λ (o : Options). Overlong o.steps o.stop l l'' t t'') same (overlong e)
+        ended_so WriteFault e = cut_among (subst (λ (o : Options). IsHalted o u.answers (take 16777216 (u.read ++ q)) t' t'') same e)
+        ended_so Memory e = cut_among (subst (λ (o : Options). IsHalted o u.answers (take 16777216 (u.read ++ q)) t' t'') same e)
+        ended_so Accepted e = absurd e
+        ended_so Usage e = absurd e
+        ended_so ReadFault e = absurd e
+        ended_so OpenProof e = absurd e
 
-      in_output : AppendsFront t1 t2 (closing_text names es ending) → Stopped l l' t t2
-      in_output a =
-          let h = here in
-          let texts = answers_text h.answers in
-          let closing = closing_text names es ending in
-          Stopped.in_output read k z short (run_of h) (
-            length texts + a.0,
-            omega (arith, a.1, length-append texts closing),
-            subst (Appends t t2) (sym (take-append-add texts closing a.0)) (Appends-trans t t1 t2 _ _ h.written a.2),
-          )
+        pub ended : (status : Status) → IsEnded p' u.read u.answers q t' t'' status → Outcome options.steps options.stop l l'' t t'' status
+        ended status e = subst (λ (o : Options). Outcome o.steps o.stop l l'' t t'' status) u.asked (ended_so status e)
 
-      pub finished : (before now : ℕ) (status : Status) → Finished names es refused ending t1 t2 before now status → Outcome l l' t t2 status
-      finished before now Accepted f = ended false f.0 f.1 f.2
-      finished before now Refused f = ended true f.0 f.1 f.2
-      finished before now WriteFault f = in_output f.0
-      finished before now Memory f = in_output (0, omega arith, f)
-      finished before now Usage f = absurd f
-      finished before now ReadFault f = absurd f
-      finished before now OpenProof f = absurd f
-      finished before now TooLong f = absurd f
+        -- the run goes on behind a piece
+        pub passed : IsPassed p' u.read u.answers q t' t'' → IsUnderway options p' l l'' t t''
+        passed h = record {
+          asked = same ∙ u.asked;
+          read = u.read ++ q;
+          answers = u.answers ++ h.more;
+          answered = h.answered;
+          goes_on = h.goes_on;
+          few = h.few;
+          consumed = all_consumed;
+          written = subst (Appends t t'') (sym (text-push u.answers h.more)) (Appends-trans t t' t'' _ _ u.written h.written);
+        }
 
 -- what was read of a known script
 consumed_front : (bytes read : List ℕ) (l' : Option (List ℕ)) → Consumes (Some bytes) l' read → (more : List ℕ) × (bytes ≡ read ++ more) × (l' ≡ Some more)
 consumed_front bytes read None k = absurd k
 consumed_front bytes read (Some more) k = (more, k, refl)
 
-no_refusal : (l l' t t' : Option (List ℕ)) → IsAcceptable l → Ended l l' t t' true → ⊥
-no_refusal l l' t t' a h =
-    let f = consumed_front a.bytes h.read l' (subst (λ (x : Option (List ℕ)). Consumes x l' h.read) a.told h.consumed) in
-    let end : f.0 ≡ [] = subst IsAtEnd f.2 h.at_end in
-    let same : a.bytes ≡ h.read = f.1 ∙ (ap (λ (xs : List ℕ). h.read ++ xs) end ∙ append-nil h.read) in
-    let accepted = subst (λ (xs : List ℕ). (r : Run xs) → refuses r ≡ false) same a.accepted in
-    false≢true (sym (accepted h.run) ∙ h.refusal)
+-- what stands behind the command at which `--stop` ended a run doesn't matter
+runs_stopped : {limit : ℕ} {stop : Bool} {held names : Names} {old new : Session} {cs : List CommandText} {answers : List Reply} (others : List CommandText)
+    → Runs limit stop held old cs answers names new → ends_early stop answers ≡ true → Runs limit stop held old (cs ++ others) answers names new
+runs_stopped {stop = true} others Runs.none e = absurd (false≢true e)
+runs_stopped {stop = false} others Runs.none e = absurd (false≢true e)
+runs_stopped {stop = stop} others (Runs.more {a = a} {answers = answers} h k r) e = Runs.more h k (runs_stopped others r (rest_early stop a.refused (some_refused answers) k e))
+  where
+    rest_early : (stop r s : Bool) → (stop && r) ≡ false → (stop && (r || s)) ≡ true → (stop && s) ≡ true
+    rest_early true true s k e = absurd (false≢true (sym k))
+    rest_early true false s k e = e
+    rest_early false r s k e = e
+runs_stopped others (Runs.stops more h k) e = Runs.stops (more ++ others) h k
 
-not_long : (l l' t t' : Option (List ℕ)) → IsAcceptable l → Overlong l l' t t' → ⊥
-not_long l l' t t' a h =
-    let f = consumed_front a.bytes h.read l' (subst (λ (x : Option (List ℕ)). Consumes x l' h.read) a.told h.consumed) in
-    absurd (omega (arith, a.short, h.long, ap length f.1, length-append h.read f.0))
+pub stopped_more : {limit : ℕ} {stop : Bool} (bytes : List ℕ) (run : Run limit stop first_place bytes) → HasEnded first_place bytes run.commands → ends_early stop run.answers ≡ true
+    → (more : List ℕ) → (other : Run limit stop first_place (bytes ++ more)) × (other.answers ≡ run.answers)
+stopped_more bytes run ended early more =
+    let behind_it = scripts_cut (behind first_place bytes) more in (
+      record {
+        commands = run.commands ++ behind_it.commands;
+        ending = behind_it.ending;
+        names = run.names;
+        answers = run.answers;
+        session = run.session;
+        cut = ended more behind_it.commands behind_it.ending behind_it.cuts;
+        runs = runs_stopped behind_it.commands run.runs early;
+      },
+      refl,
+    )
 
--- without a fault, and where each command is accepted, only memory can be wanting
-module _ (l l' t t' : Option (List ℕ)) (before now before' now' : ℕ) where
-  pub complete : (status : Status) → Outcome l l' t t' status → (status ≡ ReadFault → Rose before now) → (status ≡ WriteFault → Rose before' now')
-      → IsAcceptable l → (Rose before now → ⊥) → (Rose before' now' → ⊥) → (status ≡ Accepted) ⊎ (status ≡ Memory)
-  complete Accepted o r w a s k = inl refl
-  complete Memory o r w a s k = inr refl
-  complete Refused o r w a s k = absurd (no_refusal l l' t t' a o)
-  complete TooLong o r w a s k = absurd (not_long l l' t t' a o)
-  complete ReadFault o r w a s k = absurd (s (r refl))
-  complete WriteFault o r w a s k = absurd (k (w refl))
-  complete Usage o r w a s k = absurd o
-  complete OpenProof o r w a s k = absurd o
+module _ (limit : ℕ) (stop : Bool) (l l' t t' : Option (List ℕ)) (a : IsAcceptable limit stop l) where
+  told : (read : List ℕ) → Consumes l l' read → (more : List ℕ) × (a.bytes ≡ read ++ more) × (l' ≡ Some more)
+  told read k = consumed_front a.bytes read l' (subst (λ (x : Option (List ℕ)). Consumes x l' read) a.told k)
+
+  not_whole : (bytes : List ℕ) (run : Run limit stop first_place bytes) → IsReadWhole l l' bytes → refuses run ≡ true → ⊥
+  not_whole bytes run r h =
+      let f = told bytes r.consumed in
+      let end : f.0 ≡ [] = subst IsAtEnd f.2 r.at_end in
+      let same : a.bytes ≡ bytes = f.1 ∙ (ap (λ (xs : List ℕ). bytes ++ xs) end ∙ append-nil bytes) in
+      let accepted = subst (λ (xs : List ℕ). (r : Run limit stop first_place xs) → refuses r ≡ false) same a.accepted in
+      false≢true (sym (accepted run) ∙ h)
+
+  not_to_refused : (bytes : List ℕ) (run : Run limit stop first_place bytes) → IsReadToRefused l l' run → ⊥
+  not_to_refused bytes run r =
+      let f = told (bytes ++ r.behind) r.consumed in
+      let same : a.bytes ≡ bytes ++ (r.behind ++ f.0) = f.1 ∙ append_assoc bytes r.behind f.0 in
+      let accepted = subst (λ (xs : List ℕ). (r : Run limit stop first_place xs) → refuses r ≡ false) same a.accepted in
+      let other = stopped_more bytes run r.ended r.early (r.behind ++ f.0) in
+      let some : some_refused other.0.answers ≡ true = ap some_refused other.1 ∙ and_right stop (some_refused run.answers) r.early in
+      false≢true (sym (accepted other.0) ∙ ap (λ b. b || is_ending_refused other.0.ending) some)
+
+  no_refusal : Completed limit stop l l' t t' true → ⊥
+  no_refusal h = by_reading h.reading
+    where
+      by_reading : IsReadFor l l' h.run → ⊥
+      by_reading (IsReadFor.to_end _ r) = not_whole h.bytes h.run r h.refusal
+      by_reading (IsReadFor.to_refused r) = not_to_refused h.bytes h.run r
+
+  not_long : Overlong limit stop l l' t t' → ⊥
+  not_long h =
+      let f = told h.read h.consumed in
+      absurd (omega (arith, a.short, h.long, ap length f.1, length-append h.read f.0))
+
+  -- without a fault, and where each command is accepted, only memory can be wanting
+  pub complete : (before now before' now' : ℕ) (status : Status) → Outcome limit stop l l' t t' status → (status ≡ ReadFault → Rose before now) → (status ≡ WriteFault → Rose before' now')
+      → (Rose before now → ⊥) → (Rose before' now' → ⊥) → (status ≡ Accepted) ⊎ (status ≡ Memory)
+  complete before now before' now' Accepted o r w s k = inl refl
+  complete before now before' now' Memory o r w s k = inr refl
+  complete before now before' now' Refused o r w s k = absurd (no_refusal o)
+  complete before now before' now' TooLong o r w s k = absurd (not_long o)
+  complete before now before' now' ReadFault o r w s k = absurd (s (r refl))
+  complete before now before' now' WriteFault o r w s k = absurd (k (w refl))
+  complete before now before' now' Usage o r w s k = absurd o
+  complete before now before' now' OpenProof o r w s k = absurd o
+
+-- nothing was read and nothing written
+pub nothing_done : (limit : ℕ) (stop : Bool) (l t : Option (List ℕ)) → CutOff limit stop l l t t
+nothing_done limit stop l t = CutOff.among_answers (record {
+  before = [];
+  piece = [];
+  consumed = Consumes-nil l;
+  short = omega arith;
+  near = omega arith;
+  done = run_here (reached_first limit stop);
+  goes_on = none stop;
+  came = [];
+  behind = [];
+  within = refl;
+  run = run_here (reached_first limit stop);
+  others = [];
+  answers = refl;
+  written = (0, omega arith, Appends-nil t);
+})
+  where
+    none : (b : Bool) → (b && false) ≡ false
+    none true = refl
+    none false = refl

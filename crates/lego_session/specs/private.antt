@@ -1,8 +1,10 @@
 pub mod Binding
-pub mod Reading
-pub mod Refusals
-pub mod Unread
+pub mod Gathered
 pub mod Parts
-pub mod SessionCode
+pub mod Pending
 pub mod Printable
 pub mod Progress
+pub mod Reading
+pub mod Refusals
+pub mod SessionCode
+pub mod Unread

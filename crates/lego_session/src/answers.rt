@@ -1,5 +1,5 @@
 //! The answers to the bytes of commands.
-ghost use Rattle.std.specs.Prelude.{◌≡◌, ◌≤◌, ◌+◌, true, length, IfSome, IfNone};
+ghost use Rattle.std.specs.Prelude.{◌≡◌, ◌≤◌, ◌<◌, ◌+◌, ℕ, List as Items, true, length, IfSome, IfNone};
 ghost use Rattle.lego_lexer.specs.Commands.{IsCommandText};
 ghost use Rattle.lego_grammar.specs.Surface.{written_command};
 ghost use Rattle.lego_grammar.specs.WrittenForm.{IsWrittenForm};
@@ -52,6 +52,23 @@ pub(crate) fn answer(
         Ok(command) => run_command(names, session, limit, command),
         Err(unread) => written(Err(session.refusal(names, unread.place, unread.cause))),
     }
+}
+
+/// Refuses a command of so many bytes, which are too many.
+pub(crate) fn refuse_long(
+    names: &Names,
+    session: &Session,
+    place: Place,
+    count: usize,
+) -> Option<Answered>
+    requires { 65536 < count }
+    ensures { IfSome result (λ a. (limit : ℕ) (bytes : Items ℕ) → count ≡ length bytes → Answers limit names.now session.now (record { place = place; bytes = bytes }) (record { refused = a.refused; text = a.text }) names.now session.now) }
+{
+    let _count = names.len();
+    let cause = Cause::LongCommand {
+        bytes: count as u64,
+    };
+    written(Err(session.refusal(names, place, cause)))
 }
 
 /// Runs a command.

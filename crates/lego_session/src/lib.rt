@@ -2,14 +2,17 @@
 #![tactic(auto)]
 
 mod answers;
+mod closing;
 mod command_text;
 mod commands;
+mod gathered;
 mod parts;
+mod pending;
+mod progress;
 mod reading;
 mod refusal;
 mod refusal_text;
 mod running;
-mod script;
 mod session;
 mod status;
 mod text;

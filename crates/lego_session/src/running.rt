@@ -1,237 +1,111 @@
-//! The run of a script: its commands are answered one after the other, and the development follows.
-ghost use Rattle.std.specs.Prelude.{◌≡◌, ◌≢◌, ◌≤◌, [], List, length, IfOk, IfErr, ◌⊎◌};
-ghost use Rattle.lego_base.specs.Causes.{Rose};
-ghost use Rattle.lego_session.specs.Names.{IsKnownSession};
-ghost use Rattle.lego_session.specs.Outcomes.{Outcome, UsageOutcome, IsAcceptable};
-ghost use Rattle.lego_session.specs.private.Progress.{IsNear, IsNext, AreAnswered, Halted, Finished, ending_of};
-ghost use Rattle.lego_session.specs.Runs.{ending_text, closing_text};
-ghost use Rattle.lego_session.specs.Headline.{Headline};
-ghost use Rattle.lego_session.specs.Sessions.{Session as TheSession, entries_of};
+//! The run of a script: its commands are answered as they are read, and the development follows.
+ghost use Rattle.std.specs.Prelude.{◌≡◌, ◌≢◌, ℕ, ◌⊎◌, OnOk, OnErr};
+ghost use Rattle.std.specs.Io.KnownBytes.{Appends};
+ghost use Rattle.lego_base.specs.Bytes.{AppendsFront};
+ghost use Rattle.lego_base.specs.Causes.{HasCause, Rose};
+ghost use Rattle.lego_words.specs.Words.{AreWritten, IsUsage, texts};
+ghost use Rattle.lego_words.specs.declared.options.Options.{Options as Asked};
+ghost use Rattle.lego_session.specs.Outcomes.{Outcome, UsageOutcome, usage_line, IsAcceptable};
+ghost use Rattle.lego_session.specs.private.Progress.{IsCounted};
 
-use crate::answers::answer;
-use crate::refusal::Cause;
-use crate::refusal_text::refusal_text;
-use crate::script::{End, MAX_SCRIPT, read_all};
-use crate::session::Session;
+use crate::gathered::Gathered;
+use crate::progress::Progress;
 use crate::status::Status;
-use lego_base::{Failed, Names, Place, Sink, Source, after, send};
-use lego_kernel::Context;
-use lego_lexer::{Cut, cut};
-use std::alloc::{AllocError, Global};
+use itoa::Buffer;
+use lego_base::{Failed, Sink, Source, send};
+use lego_words::{Options, WordsFault, read_words};
+use std::alloc::Global;
 
-/// The most steps of one comparison or reduction.
-const STEP_LIMIT: u64 = 100_000;
+/// The most bytes of one read.
+const PIECE: usize = 4096;
 
-/// What stands behind the last command.
-#[derive(Clone, Copy)]
-enum Rest {
-    /// Blanks and whole comments.
-    Blank,
-    /// A first token, which no `;` follows.
-    Unended { place: Place },
-    /// A comment that does not end.
-    OpenComment { place: Place },
-}
-
-/// What stands next in a script.
-#[derive(Clone, Copy)]
-enum Next {
-    /// A command, the place of its first byte, and the range of its bytes.
-    Command {
-        place: Place,
-        start: usize,
-        end: usize,
-    },
-    /// No more command.
-    End(Rest),
-}
-
-/// What stands behind an index, which has a place.
-fn next_command(text: &[u8], at: usize, place: Place) -> Next
-    requires within { at ≤ length text.now }
-    requires short { length text.now ≤ 16777216 }
-    requires near { IsNear place at }
-    ensures { IsNext text.now at place result }
-{
-    match cut(text, at) {
-        Cut::Command { start, end } | Cut::LongCommand { start, end } => Next::Command {
-            place: after(place, &text[at..start]),
-            start,
-            end,
-        },
-        Cut::Blank => Next::End(Rest::Blank),
-        Cut::Unended { start } => Next::End(Rest::Unended {
-            place: after(place, &text[at..start]),
-        }),
-        Cut::OpenComment { start } => Next::End(Rest::OpenComment {
-            place: after(place, &text[at..start]),
-        }),
-    }
-}
-
-/// What the commands of a script came to.
-#[derive(Drop)]
-struct AllAnswered {
-    names: Names,
-    session: Session,
-    refused: bool,
-    rest: Rest,
-}
-
-/// Answers the commands one after the other, and writes each answer before the next command.
-fn answer_all<K: Sink>(alloc: Global, text: &[u8], out: &mut K) -> Result<AllAnswered, Status>
-    requires { length text.now ≤ 16777216 }
-    ensures ok { IfOk result (λ a. AreAnswered text.now a.names a.session a.refused
-        (ending_of a.rest) (K.taken out.old) (K.taken out.new)) }
-    ensures known { IfOk result (λ a. IsKnownSession a.names a.session) }
-    ensures err { IfErr result (λ status. Halted text.now (K.taken out.old) (K.taken out.new)
-        (K.faults out.old) (K.faults out.new) status) }
-    ensures later { K.faults out.old ≤ K.faults out.new }
-{
-    let mut names = Names::new(alloc);
-    let mut session = Session::new(alloc);
-    let mut refused = false;
-    let mut place = Place { line: 1, column: 1 };
-    let mut at = 0;
-    'commands: loop {
-        let (here, start, end) = match next_command(text, at, place) {
-            Next::Command { place, start, end } => (place, start, end),
-            Next::End(rest) => {
-                return Ok(AllAnswered {
-                    names,
-                    session,
-                    refused,
-                    rest,
-                });
-            }
-        };
-        let command = &text[start..end];
-        let Some(answered) = answer(alloc, &mut names, &mut session, STEP_LIMIT, here, command)
-        else {
-            return Err(Status::Memory);
-        };
-        refused |= answered.refused;
-        let Ok(()) = send(out, answered.text.items()) else {
-            return Err(Status::WriteFault);
-        };
-        place = after(here, command);
-        at = end;
-    }
-}
-
-/// The refusal of what stands behind the last command, if it is refused.
-fn refusal_of_rest(alloc: Global, names: &Names, rest: Rest) -> Result<Vec<u8>, AllocError>
-    ensures { IfOk result (λ text. (s : TheSession)
-        → text.items ≡ ending_text names.now s (ending_of rest)) }
-{
-    let (place, cause) = match rest {
-        Rest::Blank => return Ok(Vec::new(alloc)),
-        Rest::Unended { place } => (place, Cause::Unended),
-        Rest::OpenComment { place } => (place, Cause::OpenComment),
-    };
-    // Its text names no entry, so any context serves.
-    refusal_text(alloc, names, &Context::new(alloc), place, &cause)
-}
-
-/// What follows the answers.
-fn closing(
+/// Runs the commands of a script.
+fn run_script<S: Source, K: Sink>(
     alloc: Global,
-    names: &Names,
-    session: &Session,
-    rest: Rest,
-) -> Result<Vec<u8>, AllocError>
-    requires { IsKnownSession names.now session.now }
-    ensures text { IfOk result (λ text.
-        text.items ≡ closing_text names.now session.now (ending_of rest)) }
-    ensures headline { IfOk result (λ text. Headline names.now (entries_of session.now)) }
-{
-    let mut text = refusal_of_rest(alloc, names, rest)?;
-    let development = session.development(names)?;
-    text.extend_from_slice(&development)?;
-    Ok(text)
-}
-
-/// Writes what follows the answers, and says how the run ended.
-fn finish<K: Sink>(alloc: Global, answered: &AllAnswered, out: &mut K) -> Status
-    requires { IsKnownSession answered.now.names answered.now.session }
-    ensures { Finished answered.now.names answered.now.session answered.now.refused
-        (ending_of answered.now.rest) (K.taken out.old) (K.taken out.new)
-        (K.faults out.old) (K.faults out.new) result }
-{
-    let Ok(text) = closing(alloc, &answered.names, &answered.session, answered.rest) else {
-        return Status::Memory;
-    };
-    let Ok(()) = send(out, text.as_slice()) else {
-        return Status::WriteFault;
-    };
-    if answered.refused || !matches!(answered.rest, Rest::Blank) {
-        Status::Refused
-    } else {
-        Status::Accepted
-    }
-}
-
-/// Runs the commands of a script, where there are no words.
-fn run_script<S: Source, K: Sink>(alloc: Global, script: &mut S, out: &mut K) -> Status
-    ensures output { Outcome (S.left script.old) (S.left script.new)
-        (K.taken out.old) (K.taken out.new) result }
+    options: Options,
+    script: &mut S,
+    out: &mut K,
+) -> Status
+    ensures output { Outcome options.steps options.stop (S.left script.old) (S.left script.new) (K.taken out.old) (K.taken out.new) result }
     ensures read { result ≡ Status.ReadFault → Rose (S.faults script.old) (S.faults script.new) }
     ensures write { result ≡ Status.WriteFault → Rose (K.faults out.old) (K.faults out.new) }
+    ensures source { result ≢ Status.ReadFault → S.faults script.new ≡ S.faults script.old }
+    ensures sink { result ≢ Status.WriteFault → K.faults out.new ≡ K.faults out.old }
 {
-    let mut text = Vec::new(alloc);
-    let end = read_all(script, &mut text);
-    let came = &text[..text.len().min(MAX_SCRIPT)];
-    let answered = match answer_all(alloc, came, out) {
-        Ok(answered) => answered,
-        Err(status) => return status,
-    };
-    match end {
-        End::Whole => finish(alloc, &answered, out),
-        End::Fault => Status::ReadFault,
-        End::Memory => Status::Memory,
-        End::TooLong => Status::TooLong,
+    let mut progress = Progress::new(alloc, options);
+    let mut gathered = Gathered::new(alloc);
+    let mut piece = [0u8; PIECE];
+    loop {
+        let rest = progress.rest();
+        let Ok(count) = script.read(&mut piece) else {
+            return Status::ReadFault;
+        };
+        if count == 0 {
+            return progress.finish(alloc, rest, &mut gathered, out);
+        }
+        if let Err(status) = progress.pass(&piece[..count], &mut gathered, out) {
+            return status;
+        }
     }
 }
 
-/// Refuses words, at the first.
-fn refuse_words<K: Sink>(out: &mut K) -> Status
-    ensures output { UsageOutcome (K.taken out.old) (K.taken out.new) result }
-    ensures write { result ≡ Status.WriteFault → Rose (K.faults out.old) (K.faults out.new) }
+/// Writes the line that wrong words are answered, of which the first has this index.
+fn send_usage<K: Sink>(index: u32, out: &mut K) -> Result<(), Failed>
+    ensures all { OnOk result (Appends (K.taken out.old) (K.taken out.new) (usage_line index)) }
+    ensures front { OnErr result (AppendsFront (K.taken out.old) (K.taken out.new) (usage_line index)) }
+    ensures cause { HasCause (K.faults out.old) (K.faults out.new) result }
 {
-    match send(out, b"usage 0\n") {
+    let mut digits = Buffer::new();
+    send(out, b"usage ")?;
+    send(out, digits.format(index).as_bytes())?;
+    send(out, b"\n")
+}
+
+/// Refuses words, of which the first wrong one has this index.
+fn refuse_words<K: Sink>(index: u32, out: &mut K) -> Status
+    ensures output { UsageOutcome index (K.taken out.old) (K.taken out.new) result }
+    ensures write { result ≡ Status.WriteFault → Rose (K.faults out.old) (K.faults out.new) }
+    ensures sink { result ≢ Status.WriteFault → K.faults out.new ≡ K.faults out.old }
+    ensures read { result ≢ Status.ReadFault }
+{
+    match send_usage(index, out) {
         Ok(()) => Status::Usage,
         Err(Failed) => Status::WriteFault,
     }
 }
 
-/// Runs a script: its commands are answered one after the other, what stands behind the last
-/// `;` is refused, and the development is written, which reads back as the last entries. A
-/// script has at most 16,777,216 bytes. There are no words so far: any is refused.
+/// Runs a script, as the words behind a program's name ask for it: commands are answered one
+/// after the other, each when its end was read, and then what stands behind the last `;` is
+/// refused and the development is written, which reads back as the last entries. A script has at
+/// most 16,777,216 bytes, and is read in pieces of at most 4,096. With `--stop` a refused command
+/// ends the run, and no development is written.
 pub fn run<S: Source, K: Sink>(
     alloc: Global,
     words: &[String],
     script: &mut S,
     out: &mut K,
 ) -> Status
-    // Without words, what was taken is the output of a run over the bytes that were read, or a
-    // front of it.
-    ensures output { words.now ≡ [] → Outcome (S.left script.old) (S.left script.new)
-        (K.taken out.old) (K.taken out.new) result }
-    // With words it is one line, and the source is not touched.
-    ensures usage { words.now ≢ [] → UsageOutcome (K.taken out.old) (K.taken out.new) result }
-    ensures untouched { words.now ≢ [] → script.new ≡ script.old }
-    // A fault is answered only where its count rose in this call.
+    // What was taken is the output of a run over the bytes that were read, or a front of it.
+    ensures output { (asked : Asked) → AreWritten (texts words.now) asked → Outcome asked.steps asked.stop (S.left script.old) (S.left script.new) (K.taken out.old) (K.taken out.new) result }
+    // Where the words are not of the written form it is one line, and the source is not touched.
+    ensures usage { (index : ℕ) → IsUsage (texts words.now) index → UsageOutcome index (K.taken out.old) (K.taken out.new) result }
+    ensures untouched { (index : ℕ) → IsUsage (texts words.now) index → script.new ≡ script.old }
+    // A fault is answered exactly where one was counted in this call.
     ensures read { result ≡ Status.ReadFault → Rose (S.faults script.old) (S.faults script.new) }
     ensures write { result ≡ Status.WriteFault → Rose (K.faults out.old) (K.faults out.new) }
+    ensures source { result ≢ Status.ReadFault → S.faults script.new ≡ S.faults script.old }
+    ensures sink { result ≢ Status.WriteFault → K.faults out.new ≡ K.faults out.old }
     // Where no fault is counted and each command is accepted, only memory can be wanting.
-    ensures complete { words.now ≡ [] → IsAcceptable (S.left script.old)
+    ensures complete { (asked : Asked) → AreWritten (texts words.now) asked → IsAcceptable asked.steps asked.stop (S.left script.old)
         → (Rose (S.faults script.old) (S.faults script.new) → ⊥)
         → (Rose (K.faults out.old) (K.faults out.new) → ⊥)
         → (result ≡ Status.Accepted) ⊎ (result ≡ Status.Memory) }
 {
-    if words.is_empty() {
-        run_script(alloc, script, out)
-    } else {
-        refuse_words(out)
+    match read_words(alloc, words) {
+        Ok(options) => run_script(alloc, options, script, out),
+        Err(fault) => match fault {
+            WordsFault::Usage { index } => refuse_words(index, out),
+            WordsFault::Memory => Status::Memory,
+        },
     }
 }

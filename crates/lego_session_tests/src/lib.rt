@@ -2,7 +2,11 @@
 #![tactic(auto)]
 
 #[cfg(test)]
+mod devices;
+#[cfg(test)]
 mod run;
+#[cfg(test)]
+mod stop;
 #[cfg(test)]
 mod undo;
 #[cfg(test)]

@@ -247,64 +247,6 @@ fn a_script_that_ends_within_a_command_is_unended(rt: HostRuntime) -> Result<(),
 }
 
 #[test]
-fn a_failed_read_is_reported_behind_the_answers(rt: HostRuntime) -> Result<(), Fail> {
-    let mut script = MemSource::new(rt.alloc(), b"[A:Prop];[B:A];", 9, &[2])?;
-    let mut out = MemSink::new(rt.alloc(), ROOM, 1000, &[])?;
-    let status = run(rt.alloc(), &[], &mut script, &mut out);
-    assert_eq!(rt; status, Status::ReadFault);
-    assert_eq!(rt; out.taken(), b"A : Prop\n".as_slice());
-    Ok(())
-}
-
-#[test]
-fn a_failed_write_ends_the_run(rt: HostRuntime) -> Result<(), Fail> {
-    let mut script = MemSource::new(rt.alloc(), b"[A:Prop][a:A];", 9, &[])?;
-    let mut out = MemSink::new(rt.alloc(), ROOM, 1000, &[1])?;
-    let status = run(rt.alloc(), &[], &mut script, &mut out);
-    assert_eq!(rt; status, Status::WriteFault);
-    assert_eq!(rt; out.taken(), b"".as_slice());
-    Ok(())
-}
-
-#[test]
-fn a_write_that_fails_behind_the_first_answer_leaves_that_answer(
-    rt: HostRuntime,
-) -> Result<(), Fail> {
-    let mut script = MemSource::new(rt.alloc(), b"[A:Prop];[B:A];", 9, &[])?;
-    let mut out = MemSink::new(rt.alloc(), ROOM, 1000, &[2])?;
-    let status = run(rt.alloc(), &[], &mut script, &mut out);
-    assert_eq!(rt; status, Status::WriteFault);
-    assert_eq!(rt; out.taken(), b"A : Prop\n".as_slice());
-    Ok(())
-}
-
-#[test]
-fn a_sink_out_of_room_has_a_front_of_the_output(rt: HostRuntime) -> Result<(), Fail> {
-    let output = b"A : Prop\na : A\nExplicit;\n[A:Prop];\n[a:A];\n";
-    for room in 0..output.len() {
-        let mut script = MemSource::new(rt.alloc(), b"[A:Prop][a:A];", 9, &[])?;
-        let mut out = MemSink::new(rt.alloc(), room, 1000, &[])?;
-        let status = run(rt.alloc(), &[], &mut script, &mut out);
-        assert_eq!(rt; status, Status::WriteFault, "room of {room}");
-        assert_eq!(rt; out.taken(), &output[..room], "room of {room}");
-    }
-    Ok(())
-}
-
-#[test]
-fn words_are_refused_and_nothing_is_read(rt: HostRuntime) -> Result<(), Fail> {
-    let words = vec![in rt.alloc(); String::from_str(rt.alloc(), "--steps")?]?;
-    let mut script = MemSource::new(rt.alloc(), b"[A:Prop];", 9, &[])?;
-    let mut out = MemSink::new(rt.alloc(), ROOM, 1000, &[])?;
-    let status = run(rt.alloc(), &words, &mut script, &mut out);
-    assert_eq!(rt; status, Status::Usage);
-    assert_eq!(rt; status.code(), 2);
-    assert_eq!(rt; out.taken(), b"usage 0\n".as_slice());
-    assert_eq!(rt; script.left(), b"[A:Prop];".as_slice());
-    Ok(())
-}
-
-#[test]
 fn a_script_has_at_most_16_777_216_bytes(rt: HostRuntime) -> Result<(), Fail> {
     let cases: [(usize, &[u8], Status); 2] = [
         (16_777_216, b"Explicit;\n", Status::Accepted),

@@ -1,90 +1,147 @@
 -- How far a run has come.
-use Rattle.std.specs.Prelude.{◌≡◌, ℕ, ◌+◌, ◌<◌, ◌≤◌, Bool, true, false, ◌||◌, List, [], ◌∷◌, ◌++◌, length, drop, slice_range, Option}
-use Rattle.std.specs.Io.KnownBytes.{Appends, IsAtEnd}
+use Rattle.std.specs.Prelude.{◌≡◌, ℕ, ◌+◌, ◌<◌, ◌≤◌, Bool, true, false, ◌||◌, ◌&&◌, List, [], ◌∷◌, ◌++◌, length, take, Option, Some, None}
+use Rattle.std.specs.Io.KnownBytes.{Appends, Consumes}
 use Rattle.lego_base.specs.Bytes.{AppendsFront}
 use Rattle.lego_base.specs.Causes.{Rose}
 use Rattle.lego_base.specs.Place.{behind}
-use Rattle.lego_base.specs.declared.place.Place.{Place}
-use Rattle.lego_lexer.specs.Commands.{CommandText, IsCommandText, Cuts, Ending, Whole, Unended, OpenComment}
+use Rattle.lego_lexer.specs.Commands.{CommandText, Cuts, HasEnded, Ending}
 use Rattle.lego_grammar.specs.Grammar.{Names}
 use Rattle.lego_session.specs.Headline.{Headline}
-use Rattle.lego_session.specs.Outcomes.{AnswersFront}
+use Rattle.lego_session.specs.Names.{IsKnownSession}
 use Rattle.lego_session.specs.Texts.{first_place}
 use Rattle.lego_session.specs.Sessions.{Session, empty_session, entries_of}
 use Rattle.lego_session.specs.Runs.{Runs, answers_text, some_refused, closing_text, is_ending_refused}
 use Rattle.lego_session.specs.Step.{Reply}
-use Rattle.lego_session.specs.declared.running.Next.{Next}
-use Rattle.lego_session.specs.declared.running.Rest.{Rest}
-use Rattle.lego_session.specs.declared.script.End.{End}
+use Rattle.lego_session.specs.private.Gathered.{Gathers, HasFailed}
+use Rattle.lego_session.specs.private.Pending.{IsPending}
+use Rattle.lego_words.specs.declared.options.Options.{Options}
+use Rattle.lego_session.specs.declared.progress.Flow.{Flow}
+use Rattle.lego_session.specs.declared.progress.Next.{Next}
+use Rattle.lego_session.specs.declared.progress.Progress.{Progress}
 use Rattle.lego_session.specs.declared.status.Status.{Status}
-use Rattle.lego_session.specs.declared.status.Status.TheVariants.{Accepted, Refused, WriteFault, Memory}
+use Rattle.lego_session.specs.declared.status.Status.TheVariants.{Accepted, Refused, WriteFault, Memory, TooLong}
 
--- what is known where no more is read, of so many bytes
-abbrev pub IsRead : Option (List ℕ) → ℕ → ℕ → ℕ → End → Type 0
-IsRead left before now count End.Whole = IsAtEnd left × (count ≤ 16777216)
-IsRead left before now count End.Fault = Rose before now × (count ≤ 16777216)
-IsRead left before now count End.Memory = count ≤ 16777216
-IsRead left before now count End.TooLong = 16777216 < count
+-- the commands that ended in these bytes are answered so, and these names and this session are left
+pub record Reached (limit : ℕ) (stop : Bool) (came : List ℕ) (answers : List Reply) (names : Names) (s : Session) : Type 0 where
+  pub commands : List CommandText
+  pub ended : HasEnded first_place came commands
+  pub runs : Runs limit stop [] empty_session commands answers names s
+  pub as_many : length answers ≡ length commands
 
--- the place is at most so many bytes behind the first one
-pub record IsNear (place : Place) (count : ℕ) : Type 0 where
-  pub line : place.line ≤ count + 1
-  pub column : place.column ≤ count + 1
-
-abbrev pub ending_of : Rest → Ending
-ending_of Rest.Blank = Whole
-ending_of (Rest.Unended place) = Unended place
-ending_of (Rest.OpenComment place) = OpenComment place
-
--- A command stands at these indexes and at that place, first behind an index and its place: more commands may follow it.
-pub record IsCommandAt (bytes : List ℕ) (at : ℕ) (place here : Place) (start end : ℕ) : Type 0 where
-  pub after : at ≤ start
-  pub some : start < end
-  pub within : end ≤ length bytes
-  pub near : IsNear here start
-  pub text : IsCommandText (slice_range bytes start end)
-  pub cuts : (rest : List ℕ) (others : List CommandText) (ending : Ending)
-      → Cuts (behind here (slice_range bytes start end)) rest others ending
-      → Cuts place (slice_range bytes at end ++ rest) (record { place = here; bytes = slice_range bytes start end } ∷ others) ending
-
--- what stands first behind an index and its place
-abbrev pub IsNext : List ℕ → ℕ → Place → Next → Type 0
-IsNext bytes at place (Next.Command here start end) = IsCommandAt bytes at place here start end
-IsNext bytes at place (Next.End rest) = Cuts place (drop at bytes) [] (ending_of rest)
-
--- The commands up to an index are answered, with these names and entries now; more commands may follow them.
-pub record Reached (bytes : List ℕ) (at : ℕ) (place : Place) (names : Names) (s : Session) (refused : Bool) (taken taken' : Option (List ℕ)) : Type 0 where
+-- these bytes were read, and these are the answers to the commands that ended in them
+pub record HasAnswered (p : Progress) (read : List ℕ) (answers : List Reply) : Type 0 where
   pub came : List ℕ
-  pub commands : List CommandText
+  pub bytes : List ℕ
+  pub parts : read ≡ came ++ bytes
+  pub reached : Reached p.options.steps p.options.stop came answers p.names p.session
+  pub refused : p.refused ≡ some_refused answers
+  pub pending : IsPending p.pending (behind first_place came) (length came) bytes
+  pub known : IsKnownSession p.names p.session
+
+-- so, and the last of the bytes is the `;` of the last command
+pub record HasJustAnswered (p : Progress) (read : List ℕ) (answers : List Reply) : Type 0 where
+  pub front : List ℕ
+  pub with_semicolon : read ≡ front ++ 59 ∷ []
+  pub reached : Reached p.options.steps p.options.stop read answers p.names p.session
+  pub refused : p.refused ≡ some_refused answers
+  pub pending : IsPending p.pending (behind first_place read) (length read) []
+  pub known : IsKnownSession p.names p.session
+
+-- some bytes were read
+pub record HasAnsweredSome (p : Progress) : Type 0 where
+  pub read : List ℕ
   pub answers : List Reply
-  pub parts : bytes ≡ came ++ drop at bytes
-  pub cuts : (rest : List ℕ) (others : List CommandText) (ending : Ending)
-      → Cuts place rest others ending → Cuts first_place (came ++ rest) (commands ++ others) ending
-  pub runs : Runs [] empty_session commands answers names s
-  pub refusal : some_refused answers ≡ refused
+  pub answered : HasAnswered p read answers
+
+-- what came of bytes, before which these were read and answered
+abbrev pub IsNext : Progress → (read : List ℕ) (answers : List Reply) (bytes : List ℕ) → Next → Type 0
+IsNext p read answers bytes Next.More = HasAnswered p (read ++ bytes) answers
+IsNext p read answers bytes (Next.Answer used text) =
+    (refused : Bool) × HasJustAnswered p (read ++ take used bytes) (answers ++ record { refused = refused; text = text } ∷ [])
+
+abbrev pub IsNextWithin : (bytes : List ℕ) → Next → Type 0
+IsNextWithin bytes Next.More = Unit {0}
+IsNextWithin bytes (Next.Answer used text) = (0 < used) × (used ≤ length bytes)
+
+-- no refused command ends the run
+abbrev pub MayGoOn : Progress → Type 0
+MayGoOn p = (p.options.stop && p.refused) ≡ false
+
+-- `--stop` ended the run at a command of the piece, and these answers are new
+pub record IsStopped (p : Progress) (read : List ℕ) (answers : List Reply) (piece : List ℕ) (more : List Reply) : Type 0 where
+  pub used : ℕ
+  pub some : 0 < used
+  pub within : used ≤ length piece
+  pub answered : HasJustAnswered p (read ++ take used piece) (answers ++ more)
+  pub stops : (p.options.stop && p.refused) ≡ true
+
+-- what came of a piece: its answers were taken or are gathered
+abbrev pub IsFlow : Progress → (read : List ℕ) (answers : List Reply) (piece gathered : List ℕ) (taken taken' : Option (List ℕ)) → Flow → Type 0
+IsFlow p read answers piece gathered taken taken' Flow.GoesOn =
+    (more : List Reply) × HasAnswered p (read ++ piece) (answers ++ more) × MayGoOn p × Gathers taken taken' gathered (answers_text more)
+IsFlow p read answers piece gathered taken taken' Flow.Stops =
+    (more : List Reply) × IsStopped p read answers piece more × Gathers taken taken' gathered (answers_text more)
+
+-- the commands that ended in a front of the bytes are answered, the first of them so, and a front of the other answers was taken
+pub record IsHalted (options : Options) (answers : List Reply) (bytes : List ℕ) (taken taken' : Option (List ℕ)) : Type 0 where
+  pub came : List ℕ
+  pub behind : List ℕ
+  pub within : bytes ≡ came ++ behind
+  pub more : List Reply
+  pub names : Names
+  pub session : Session
+  pub reached : Reached options.steps options.stop came (answers ++ more) names session
+  pub written : AppendsFront taken taken' (answers_text more)
+
+-- the piece was read, and the answers in it were taken
+pub record IsPassed (p : Progress) (read : List ℕ) (answers : List Reply) (piece : List ℕ) (taken taken' : Option (List ℕ)) : Type 0 where
+  pub more : List Reply
+  pub answered : HasAnswered p (read ++ piece) (answers ++ more)
+  pub goes_on : MayGoOn p
+  pub few : length (read ++ piece) ≤ 16777216
+  pub written : Appends taken taken' (answers_text more)
+
+-- the piece goes past the limit of bytes, and the answers before it were taken
+pub record IsOverlong (p : Progress) (read : List ℕ) (answers : List Reply) (piece : List ℕ) (taken taken' : Option (List ℕ)) : Type 0 where
+  pub more : List Reply
+  pub answered : HasAnswered p (take 16777216 (read ++ piece)) (answers ++ more)
+  pub ending : Ending
+  pub rest : Cuts (behind first_place answered.came) answered.bytes [] ending
+  pub goes_on : MayGoOn p
+  pub many : 16777216 < length (read ++ piece)
+  pub written : Appends taken taken' (answers_text more)
+
+-- how a run ends at a piece
+abbrev pub IsEnded : Progress → (read : List ℕ) (answers : List Reply) (piece : List ℕ) (taken taken' : Option (List ℕ)) → Status → Type 0
+IsEnded p read answers piece taken taken' Refused =
+    (more : List Reply) × (h : IsStopped p read answers piece more) × (length (read ++ take h.used piece) ≤ 16777216) × Appends taken taken' (answers_text more)
+IsEnded p read answers piece taken taken' TooLong = IsOverlong p read answers piece taken taken'
+IsEnded p read answers piece taken taken' WriteFault = IsHalted p.options answers (take 16777216 (read ++ piece)) taken taken'
+IsEnded p read answers piece taken taken' Memory = IsHalted p.options answers (take 16777216 (read ++ piece)) taken taken'
+IsEnded p read answers piece taken taken' _ = ⊥
+
+-- the sink's count of faults rose where a write failed, and stayed otherwise
+abbrev pub IsCounted : (before now : ℕ) → Status → Type 0
+IsCounted before now WriteFault = Rose before now
+IsCounted before now _ = now ≡ before
+
+-- all pieces so far were read, and their answers taken
+pub record IsUnderway (options : Options) (p : Progress) (left left' taken taken' : Option (List ℕ)) : Type 0 where
+  pub asked : p.options ≡ options
+  pub read : List ℕ
+  pub answers : List Reply
+  pub answered : HasAnswered p read answers
+  pub goes_on : MayGoOn p
+  pub few : length read ≤ 16777216
+  pub consumed : Consumes left left' read
   pub written : Appends taken taken' (answers_text answers)
 
--- all commands are answered, and the answers were taken
-pub record AreAnswered (bytes : List ℕ) (names : Names) (s : Session) (refused : Bool) (ending : Ending) (taken taken' : Option (List ℕ)) : Type 0 where
-  pub commands : List CommandText
-  pub answers : List Reply
-  pub cut : Cuts first_place bytes commands ending
-  pub runs : Runs [] empty_session commands answers names s
-  pub refusal : some_refused answers ≡ refused
-  pub written : Appends taken taken' (answers_text answers)
-
--- no memory for a command, or none of the sink's room, where its count rose
-abbrev pub Halted : (bytes : List ℕ) (taken taken' : Option (List ℕ)) (before now : ℕ) → Status → Type 0
-Halted bytes taken taken' before now Memory = AnswersFront bytes taken taken'
-Halted bytes taken taken' before now WriteFault = AnswersFront bytes taken taken' × Rose before now
-Halted bytes taken taken' before now _ = ⊥
-
--- what follows the answers was taken, or a front of it where the sink's count rose
-abbrev pub Finished : Names → Session → (refused : Bool) → Ending → (taken taken' : Option (List ℕ)) (before now : ℕ) → Status → Type 0
-Finished names s refused ending taken taken' before now Accepted =
-    Appends taken taken' (closing_text names s ending) × Headline names (entries_of s) × ((refused || is_ending_refused ending) ≡ false)
-Finished names s refused ending taken taken' before now Refused =
-    Appends taken taken' (closing_text names s ending) × Headline names (entries_of s) × ((refused || is_ending_refused ending) ≡ true)
-Finished names s refused ending taken taken' before now WriteFault = AppendsFront taken taken' (closing_text names s ending) × Rose before now
-Finished names s refused ending taken taken' before now Memory = Appends taken taken' []
-Finished names s refused ending taken taken' before now _ = ⊥
+-- what follows the answers was taken, or a front of it
+abbrev pub IsFinished : (stop : Bool) → Names → Session → (refused : Bool) → Ending → (taken taken' : Option (List ℕ)) → Status → Type 0
+IsFinished stop names s refused ending taken taken' Accepted =
+    Appends taken taken' (closing_text stop names s ending) × ((refused || is_ending_refused ending) ≡ false) × Headline names (entries_of s)
+IsFinished stop names s refused ending taken taken' Refused =
+    Appends taken taken' (closing_text stop names s ending) × ((refused || is_ending_refused ending) ≡ true) × Headline names (entries_of s)
+IsFinished stop names s refused ending taken taken' WriteFault = AppendsFront taken taken' (closing_text stop names s ending)
+IsFinished stop names s refused ending taken taken' Memory = AppendsFront taken taken' (closing_text stop names s ending)
+IsFinished stop names s refused ending taken taken' _ = ⊥

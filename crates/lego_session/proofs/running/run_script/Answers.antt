@@ -1,34 +1,58 @@
-use Rattle.std.proofs.Common.{◌≡◌, take}
-use Rattle.lego_session.proofs.OutcomeLemmas.{up_to, halted, overlong, no_memory, broken, finished}
+use Rattle.std.proofs.Common.{◌≡◌, ◌∙◌, length, take, arith, subst, length-take, length-append}
+use Rattle.std.specs.Io.KnownBytes.{Consumes}
+use Rattle.lego_session.specs.private.Pending.{ending_of}
+use Rattle.lego_session.specs.private.Progress.{IsEnded}
+use Rattle.lego_session.proofs.OutcomeLemmas.{broken, finished, ended, passed}
+use Rattle.lego_session.proofs.ProgressLemmas.{fed_is}
 use Rattle.lego_session.proofs.running.run_script.Goals as goal
+
+pub returns-in_default-clause-output : goal.returns-in_default-clause-output
+returns-in_default-clause-output g c =
+    let u = c.loop-count.invariant.underway in
+    broken c.args.options c.loop-count.progress (g.S.Source.left c.args.script.now) (g.S.Source.left c.loop-count.script) (g.K.Sink.taken c.args.out.now) (g.K.Sink.taken c.loop-count.out) u
+    (ending_of c.rest-rest.result) (c.rest-rest.ensures u.read u.answers u.answered) (g.S.Source.left c.read.new.self) c.in_default.ensures.bytes
+
+pub returns-then-count-eq0-clause-output : goal.returns-then-count-eq0-clause-output
+returns-then-count-eq0-clause-output g c =
+    let u = c.loop-count.invariant.underway in
+    let none : c.in-Ok.count ≡ 0 = omega (arith, c.if-count-eq0.true) in
+    let bytes = c.in-Ok.ensures.bytes in
+    finished c.args.options c.loop-count.progress (g.S.Source.left c.args.script.now) (g.S.Source.left c.loop-count.script) (g.K.Sink.taken c.args.out.now) (g.K.Sink.taken c.loop-count.out) u
+    (ending_of c.rest-rest.result) (c.rest-rest.ensures u.read u.answers u.answered) (g.S.Source.left c.read.new.self) (g.K.Sink.taken c.finish.new.out)
+    (subst (λ n. Consumes (g.S.Source.left c.loop-count.script) (g.S.Source.left c.read.new.self) (take n c.read.new.into)) none bytes.0)
+    (bytes.1 none (omega (arith, c.read.auto.into))) c.finish.result c.finish.ensures.finished
 
 pub returns-in-Err-clause-output : goal.returns-in-Err-clause-output
 returns-in-Err-clause-output g c =
-    let read = c.read_all-end.new.text.items in
-    let front : take c.min.result c.deref.result.now ≡ take 16777216 read = up_to c.min.result 16777216 c.deref.result.now read c.deref.ensures.value (cc) in
-    halted _ read _ _ (g.K.Sink.taken c.args.out.now) (g.K.Sink.taken c.answer_all.new.out) _ _ c.in-Err.status c.read_all-end.ensures.consumed front c.in-Err.ensures.err
+    let u = c.loop-count.invariant.underway in
+    ended c.args.options c.loop-count.progress (g.S.Source.left c.args.script.now) (g.S.Source.left c.loop-count.script) (g.K.Sink.taken c.args.out.now) (g.K.Sink.taken c.loop-count.out) u
+    (ending_of c.rest-rest.result) (c.rest-rest.ensures u.read u.answers u.answered) (g.S.Source.left c.read.new.self) (g.K.Sink.taken c.pass.new.out)
+    (take c.in-Ok.count c.read.new.into) c.in-Ok.ensures.bytes.0 (omega (arith, length-take c.in-Ok.count c.read.new.into, c.read.auto.into)) c.pass.new.self c.pass.ensures.asked
+    c.in-Err.status (c.in-Err.ensures.err u.read u.answers u.answered)
 
-pub returns-in-Whole-clause-output : goal.returns-in-Whole-clause-output
-returns-in-Whole-clause-output g c =
-    let read = c.read_all-end.new.text.items in
-    let front : take c.min.result c.deref.result.now ≡ take 16777216 read = up_to c.min.result 16777216 c.deref.result.now read c.deref.ensures.value (cc) in
-    finished _ read _ _ (g.K.Sink.taken c.args.out.now) (g.K.Sink.taken c.answer_all.new.out) _ _ _ _ c.in-Whole.ensures.consumed front c.in-Ok.ensures.ok
-    c.in-Whole.ensures.end.1 (g.K.Sink.taken c.finish.new.out) c.in-Whole.ensures.end.0 _ _ c.finish.result c.finish.ensures
+pub returns-in-Err-clause-read : goal.returns-in-Err-clause-read
+returns-in-Err-clause-read g c = λ is.
+    let u = c.loop-count.invariant.underway in
+    absurd (subst (IsEnded c.pass.new.self u.read u.answers (take c.in-Ok.count c.read.new.into) (g.K.Sink.taken c.loop-count.out) (g.K.Sink.taken c.pass.new.out)) is
+    (c.in-Err.ensures.err u.read u.answers u.answered))
 
-pub returns-in-Fault-clause-output : goal.returns-in-Fault-clause-output
-returns-in-Fault-clause-output g c =
-    let read = c.read_all-end.new.text.items in
-    let front : take c.min.result c.deref.result.now ≡ take 16777216 read = up_to c.min.result 16777216 c.deref.result.now read c.deref.ensures.value (cc) in
-    broken _ read _ _ (g.K.Sink.taken c.args.out.now) (g.K.Sink.taken c.answer_all.new.out) _ _ _ _ c.in-Fault.ensures.consumed front c.in-Ok.ensures.ok c.in-Fault.ensures.end.1
+pub loop-count-smaller : goal.loop-count-smaller
+loop-count-smaller g c =
+    let u = c.loop-count.invariant.underway in
+    let q = take c.in-Ok.count c.read.new.into in
+    let h = c.in_default-pass.ensures.ok u.read u.answers u.answered in
+    omega (arith, fed_is u.answered, fed_is h.answered, h.few, length-append u.read q, length-take c.in-Ok.count c.read.new.into, c.in-Ok.ensures.bound, c.if-count-eq0.false)
 
-pub returns-in-Memory-clause-output : goal.returns-in-Memory-clause-output
-returns-in-Memory-clause-output g c =
-    let read = c.read_all-end.new.text.items in
-    let front : take c.min.result c.deref.result.now ≡ take 16777216 read = up_to c.min.result 16777216 c.deref.result.now read c.deref.ensures.value (cc) in
-    no_memory _ read _ _ (g.K.Sink.taken c.args.out.now) (g.K.Sink.taken c.answer_all.new.out) _ _ _ _ c.in-Memory.ensures.consumed front c.in-Ok.ensures.ok
-
-pub returns-clause-output : goal.returns-clause-output
-returns-clause-output g c =
-    let read = c.read_all-end.new.text.items in
-    let front : take c.min.result c.deref.result.now ≡ take 16777216 read = up_to c.min.result 16777216 c.deref.result.now read c.deref.ensures.value (cc) in
-    overlong _ read _ _ (g.K.Sink.taken c.args.out.now) (g.K.Sink.taken c.answer_all.new.out) _ _ _ _ c.in-TooLong.ensures.consumed front c.in-Ok.ensures.ok c.in-TooLong.ensures.end
+pub loop-count-preserved : goal.loop-count-preserved
+loop-count-preserved g c =
+    let u = c.loop-count.invariant.underway in
+    let h = c.in_default-pass.ensures.ok u.read u.answers u.answered in
+    record {
+      underway =
+          passed c.args.options c.loop-count.progress (g.S.Source.left c.args.script.now) (g.S.Source.left c.loop-count.script) (g.K.Sink.taken c.args.out.now) (g.K.Sink.taken c.loop-count.out) u
+          (ending_of c.rest-rest.result) (c.rest-rest.ensures u.read u.answers u.answered) (g.S.Source.left c.read.new.self) (g.K.Sink.taken c.pass.new.out)
+          (take c.in-Ok.count c.read.new.into) c.in-Ok.ensures.bytes.0 (omega (arith, length-take c.in-Ok.count c.read.new.into, c.read.auto.into)) c.pass.new.self c.pass.ensures.asked h;
+      sent = c.in_default-pass.ensures.none;
+      source = c.in-Ok.ensures.cause.kept ∙ c.loop-count.invariant.source;
+      sink = c.in_default-pass.ensures.kept ∙ c.loop-count.invariant.sink;
+    }
