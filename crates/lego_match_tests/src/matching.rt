@@ -70,7 +70,7 @@ fn answer(
 ) -> Result<Option<Candidate>, MatchFault>
     requires closed { AreClosed bodies.now }
 {
-    if depth > 100 || a.loose() > depth || b.loose() > depth {
+    if depth > 63_536 || a.loose() > depth || b.loose() > depth {
         return Err(MatchFault::Memory);
     }
     candidate(alloc, bodies, &[(3, 0), (4, 1), (5, 2)], depth, a, b, limit)
@@ -438,6 +438,25 @@ fn a_term_that_grows_without_end_is_too_large(rt: HostRuntime) -> Result<(), Fai
     let left = apply(alloc, &own, &own)?;
     let found = answer(alloc, &bodies, 0, &left, &konst(alloc, A)?, 100_000);
     assert!(rt; matches!(found, Err(MatchFault::TooLarge { depth: 2_001, .. })));
+    Ok(())
+}
+
+/// A part under more variables than can be normalised by itself: the whole terms are.
+#[test]
+fn a_pair_may_stand_under_the_most_locals(rt: HostRuntime) -> Result<(), Fail> {
+    let alloc = rt.alloc();
+    let a = konst(alloc, A)?;
+    let first = var(alloc, 63_536)?;
+    let hole = apply(alloc, &konst(alloc, 4)?, &first)?;
+    let left = pi(alloc, PLAIN, &a, &hole)?;
+    let right = pi(alloc, PLAIN, &a, &apply(alloc, &a, &first)?)?;
+    let found = matched(alloc, 63_536, &left, &right)?;
+    assert!(rt; solves(&found, 4, &spine(alloc, A, &[0])?));
+    let (p, q) = (fst(alloc, &first)?, snd(alloc, &first)?);
+    let left = pi(alloc, named(1), &a, &p)?;
+    let right = pi(alloc, named(2), &a, &q)?;
+    let found = matched(alloc, 63_536, &left, &right)?;
+    assert!(rt; clashes(&found, &p, &q, &[named(1)]));
     Ok(())
 }
 

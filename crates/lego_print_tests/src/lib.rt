@@ -1,8 +1,7 @@
 //! Tests of the printer, over its public calls alone.
 #![tactic(auto)]
 
-#[cfg(test)]
-mod few;
+pub mod few;
 #[cfg(test)]
 mod refusals;
 #[cfg(test)]
