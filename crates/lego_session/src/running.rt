@@ -13,7 +13,7 @@ use crate::progress::Progress;
 use crate::status::Status;
 use itoa::Buffer;
 use lego_base::{Failed, Sink, Source, send};
-use lego_words::{Options, WordsFault, read_words};
+use lego_words::{Options, WordsFault, one_meaning, one_usage, read_words};
 use std::alloc::Global;
 
 /// The most bytes of one read.
@@ -101,6 +101,9 @@ pub fn run<S: Source, K: Sink>(
         → (Rose (K.faults out.old) (K.faults out.new) → ⊥)
         → (result ≡ Status.Accepted) ⊎ (result ≡ Status.Memory) }
 {
+    // So what the words ask for, or the first wrong one, is one thing.
+    one_meaning();
+    one_usage();
     match read_words(alloc, words) {
         Ok(options) => run_script(alloc, options, script, out),
         Err(fault) => match fault {
