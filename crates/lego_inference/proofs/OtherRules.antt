@@ -109,7 +109,7 @@ module _ (es : List Entry) (place : Place) (s : Site) where
   application_split k x m n tf a b have km own more within f head arg decided = record {
     rule = RuleType.application f.rule head;
     parts = all_shaped (next_shaped 1 (next_shaped 0 none_before Part.function (shaped_head f.parts f.rule head WantsHead.a_function Fulfils.a_function)) (Part.argument f.rule head) (shaped_stated arg.parts arg.rule decided.zero));
-    fits = λ held c. 
+    fits = λ held c.
         let ff = f.fits held c in
         let fa = arg.fits held (wider (s.first + nodes m) (omega arith) c) in
         let big = wider (s.first + nodes m + nodes n) (omega arith) c in

@@ -89,7 +89,7 @@ module _ (es : List Entry) (place : Place) (s : Site) (m : Core) where
       → IsChecked (task es s m (OfType want)) want place (record { ty = want; constraints = own ++ more; levels = s.first + nodes m })
   check_split want have own more within j decided = record {
     type = refl;
-    fits = λ held c is_type. 
+    fits = λ held c is_type.
         let fm = j.fits held c in
         let big = contexts_widen s.first (s.first + nodes m) (core_types es) (core_bodies es) held s.types (omega arith) c in
         let asked = decided_within es (s.first + nodes m) big.bodies_within fm.type_within (omega arith) decided in
@@ -112,7 +112,7 @@ module _ (es : List Entry) (place : Place) (s : Site) (m : Core) where
       → IsCheckedWritten (task es s m (OfWrittenType a)) a place (record { ty = a; constraints = km ++ (kt ++ more); levels = s.first + nodes m + nodes a })
   written_split a have km kt more sort within j t decided = record {
     type = refl;
-    fits = λ held c. 
+    fits = λ held c.
         let fm = j.fits held c in
         let ft = t.inferred.fits held (contexts_widen s.first (s.first + nodes m) (core_types es) (core_bodies es) held s.types (omega arith) c) in
         let big = contexts_widen s.first (s.first + nodes m + nodes a) (core_types es) (core_bodies es) held s.types (omega arith) c in

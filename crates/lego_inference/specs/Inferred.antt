@@ -50,7 +50,7 @@ pub record IsChecked (t : Task) (want : Core) (place : Place) (judged : Judged) 
   pub type : judged.ty ≡ want
   pub fits : (held : List LevelPair) → IsContextOf t held
       → ((v : Assignment) → SatisfiesAll v held
-        → (j : ℕ) × Derives (bodies_at v (core_types t.entries)) (bodies_at v (core_bodies t.entries)) (map (at v) t.site.types) (at v want) (Univ j))
+      → (j : ℕ) × Derives (bodies_at v (core_types t.entries)) (bodies_at v (core_bodies t.entries)) (map (at v) t.site.types) (at v want) (Univ j))
       → FitsWantedBetween t.site.first judged.levels (core_types t.entries) (core_bodies t.entries) held t.site.types t.core want (pairs_of judged.constraints)
   pub gathered : AreGathered t place judged.constraints judged.levels
 

@@ -7,8 +7,8 @@ ghost use Rattle.lego_laws.specs.Places.{AnyType, BeAType, OfType, OfWrittenType
 use crate::entry::{At, Judged};
 use crate::fault::TypeFault;
 use crate::gathered::Gathered;
-use crate::judge::{checked, judge, type_at};
 use crate::head::sort_of;
+use crate::judge::{checked, judge, type_at};
 use crate::locals::Locals;
 use crate::setting::Setting;
 use crate::signature::Signature;

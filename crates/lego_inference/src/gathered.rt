@@ -67,7 +67,12 @@ impl Gathered {
     }
 
     /// Adds that the sort, a universe or `Prop`, is at most the level.
-    pub(crate) fn bound(&mut self, sort: Option<Level>, level: Level, place: Place) -> Result<(), AllocError>
+    pub(crate) fn bound(
+        &mut self,
+        sort: Option<Level>,
+        level: Level,
+        place: Place,
+    ) -> Result<(), AllocError>
         ensures added { OnOk result (self.new.constraints.items ≡ self.old.constraints.items ++ asked_of_sort sort level place) }
         ensures levels { self.new.levels ≡ self.old.levels }
     {

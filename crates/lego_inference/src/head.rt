@@ -76,12 +76,7 @@ pub(crate) fn product_of(
 }
 
 /// The product, where this is the head form.
-fn product_in(
-    locals: &Locals,
-    term: &Term,
-    ty: &Term,
-    found: &Term,
-) -> Result<Former, TypeFault>
+fn product_in(locals: &Locals, term: &Term, ty: &Term, found: &Term) -> Result<Former, TypeFault>
     ensures { IsIn product_tree AFunction (binders_of locals.now) term.now ty.now found.now result }
 {
     match found.view() {
@@ -105,12 +100,7 @@ pub(crate) fn sigma_of(
 }
 
 /// The Sigma type, where this is the head form.
-fn sigma_in(
-    locals: &Locals,
-    term: &Term,
-    ty: &Term,
-    found: &Term,
-) -> Result<Former, TypeFault>
+fn sigma_in(locals: &Locals, term: &Term, ty: &Term, found: &Term) -> Result<Former, TypeFault>
     ensures { IsIn sigma_tree APair (binders_of locals.now) term.now ty.now found.now result }
 {
     match found.view() {

@@ -24,7 +24,9 @@ use crate::gathered::Gathered;
 use crate::head::{Former, product_of, sigma_of, sort_of};
 use crate::locals::Locals;
 use crate::made::{instance, product, second_type, sigma_former};
-use crate::rules::{Formed, constant, product_type, prop_type, sigma_type, universe_type, variable};
+use crate::rules::{
+    Formed, constant, product_type, prop_type, sigma_type, universe_type, variable,
+};
 use crate::setting::{Bound, Setting};
 use crate::stated::compare;
 use lego_term::{Binder, Level, Mark, Node, Term};

@@ -8,7 +8,6 @@ mod entry;
 mod fault;
 mod gathered;
 mod head;
-
 mod judge;
 mod locals;
 mod made;
@@ -17,8 +16,8 @@ mod setting;
 mod signature;
 mod stated;
 
+pub use calls::{check, check_written, infer, infer_type};
 pub use entry::{At, Entry, EntryKind, Judged, Universe};
 pub use fault::{Counted, TypeFault};
-pub use calls::{check, check_written, infer, infer_type};
 pub use locals::{Local, Locals};
 pub use signature::Signature;

@@ -25,7 +25,11 @@ pub(crate) struct Formed {
 }
 
 /// Rule var, of a local variable.
-pub(crate) fn variable(setting: &Setting<'_>, locals: &Locals, index: u32) -> Result<Term, TypeFault>
+pub(crate) fn variable(
+    setting: &Setting<'_>,
+    locals: &Locals,
+    index: u32,
+) -> Result<Term, TypeFault>
     requires within { index < length locals.now }
     requires scoped { AreScoped (types_of locals.now) }
     ensures ok { IfOk result (λ ty. (a : Core) × (slice_get (types_of locals.now) index ≡ Some a) × (ty ≡ lift 0 (suc index) a)) }
@@ -58,11 +62,21 @@ pub(crate) fn prop_type(alloc: Global) -> Result<Term, TypeFault>
     ensures ok { IfOk result (λ ty. ty ≡ Univ (fixed_level 0)) }
     ensures err { IfErr result (λ fault. fault ≡ Memory) }
 {
-    universe(alloc, Level { base: None, plus: 0 })
+    universe(
+        alloc,
+        Level {
+            base: None,
+            plus: 0,
+        },
+    )
 }
 
 /// Rule T: the type of a universe is the universe of the node's level variable, which is above it.
-pub(crate) fn universe_type(setting: &Setting<'_>, level: Level, found: &mut Gathered) -> Result<Term, TypeFault>
+pub(crate) fn universe_type(
+    setting: &Setting<'_>,
+    level: Level,
+    found: &mut Gathered,
+) -> Result<Term, TypeFault>
     requires { level.plus ≤ 1000000 }
     ensures { FindsUniverse level setting.now.asked.place found.old found.new result }
 {
@@ -77,7 +91,11 @@ pub(crate) fn universe_type(setting: &Setting<'_>, level: Level, found: &mut Gat
 
 /// The end of Pi1 and Pi2: a product is a proposition where its body is, and else in the universe of
 /// its own level variable, which is at least both sorts.
-pub(crate) fn product_type(setting: &Setting<'_>, formed: Formed, found: &mut Gathered) -> Result<Term, TypeFault>
+pub(crate) fn product_type(
+    setting: &Setting<'_>,
+    formed: Formed,
+    found: &mut Gathered,
+) -> Result<Term, TypeFault>
     ensures ok { IfOk result (λ ty. ty ≡ product_sort formed) }
     ensures added { OnOk result (found.new.constraints.items ≡ found.old.constraints.items ++ asked_of_product formed setting.now.asked.place) }
     ensures levels { OnOk result (found.new.levels ≡ found.old.levels) }
@@ -93,7 +111,11 @@ pub(crate) fn product_type(setting: &Setting<'_>, formed: Formed, found: &mut Ga
 }
 
 /// The end of Sigma: the universe of the node's own level variable, which is at least both sorts.
-pub(crate) fn sigma_type(setting: &Setting<'_>, formed: Formed, found: &mut Gathered) -> Result<Term, TypeFault>
+pub(crate) fn sigma_type(
+    setting: &Setting<'_>,
+    formed: Formed,
+    found: &mut Gathered,
+) -> Result<Term, TypeFault>
     ensures ok { IfOk result (λ ty. ty ≡ Univ formed.own) }
     ensures added { OnOk result (found.new.constraints.items ≡ found.old.constraints.items ++ asked_of_former formed setting.now.asked.place) }
     ensures levels { OnOk result (found.new.levels ≡ found.old.levels) }

@@ -127,8 +127,10 @@ formed-type_at-requires t c =
 pub formed-returns-in_err-own-clause-parts : goal.formed-returns-in_err-own-clause-parts
 formed-returns-in_err-own-clause-parts t c =
     let e = err_from_is_err_and c.from_residual.result c.from_residual.ensures.1 in
-    rw (e.1, e.2) (level_fails (laws_entries c.args.setting.now.signature.now) c.args.setting.now.asked (site_of c.args.locals.now c.args.found.now.levels) (Pi c.args.bound.now.binder c.args.bound.now.domain.now c.args.bound.now.body.now) c.in_err-own.field-0.0 (omega (arith, count_pi c.args.bound.now.binder c.args.bound.now.domain.now c.args.bound.now.body.now)) (inr (c.in_err-own.ensures.fault, c.in_err-own.ensures.full)),
-    level_fails (laws_entries c.args.setting.now.signature.now) c.args.setting.now.asked (site_of c.args.locals.now c.args.found.now.levels) (Sigma c.args.bound.now.binder c.args.bound.now.domain.now c.args.bound.now.body.now) c.in_err-own.field-0.0 (omega (arith, count_sigma c.args.bound.now.binder c.args.bound.now.domain.now c.args.bound.now.body.now)) (inr (c.in_err-own.ensures.fault, c.in_err-own.ensures.full)))
+    rw (e.1, e.2) (
+      level_fails (laws_entries c.args.setting.now.signature.now) c.args.setting.now.asked (site_of c.args.locals.now c.args.found.now.levels) (Pi c.args.bound.now.binder c.args.bound.now.domain.now c.args.bound.now.body.now) c.in_err-own.field-0.0 (omega (arith, count_pi c.args.bound.now.binder c.args.bound.now.domain.now c.args.bound.now.body.now)) (inr (c.in_err-own.ensures.fault, c.in_err-own.ensures.full)),
+      level_fails (laws_entries c.args.setting.now.signature.now) c.args.setting.now.asked (site_of c.args.locals.now c.args.found.now.levels) (Sigma c.args.bound.now.binder c.args.bound.now.domain.now c.args.bound.now.body.now) c.in_err-own.field-0.0 (omega (arith, count_sigma c.args.bound.now.binder c.args.bound.now.domain.now c.args.bound.now.body.now)) (inr (c.in_err-own.ensures.fault, c.in_err-own.ensures.full)),
+    )
 
 pub formed-returns-in_err-domain-clause-parts : goal.formed-returns-in_err-domain-clause-parts
 formed-returns-in_err-domain-clause-parts t c =
@@ -256,9 +258,11 @@ pub local-judge-requires-2 : goal.local-judge-requires-2
 local-judge-requires-2 t c =
     let falls = c.decreases in
     let is = c.in_ok-with_value.ensures in
-    let same = ap (λ (z : Core). height z) is in
-    (omega arith, at_site (λ z. IsReady (laws_entries c.args.setting.now.signature.now) z c.in_ok-with_value.with_value) {l = c.args.locals.now} {n = c.args.found.now.levels + nodes c.args.value.now} (sym c.in_ok-judge.ensures.kept) (sym c.in_ok-judge.ensures.judged.1.levels)
-    (subst (IsReady (laws_entries c.args.setting.now.signature.now) (behind (nodes c.args.value.now) (site_of c.args.locals.now c.args.found.now.levels))) (sym is) (ready_part c.requires (Part.local_body {w = AType}))))
+    let same = ap (λ (z : Core). height z) is in (
+      omega arith,
+      at_site (λ z. IsReady (laws_entries c.args.setting.now.signature.now) z c.in_ok-with_value.with_value) {l = c.args.locals.now} {n = c.args.found.now.levels + nodes c.args.value.now} (sym c.in_ok-judge.ensures.kept) (sym c.in_ok-judge.ensures.judged.1.levels)
+          (subst (IsReady (laws_entries c.args.setting.now.signature.now) (behind (nodes c.args.value.now) (site_of c.args.locals.now c.args.found.now.levels))) (sym is) (ready_part c.requires (Part.local_body {w = AType}))),
+    )
 
 pub local-returns-clause-judged : goal.local-returns-clause-judged
 local-returns-clause-judged t c =
