@@ -1,5 +1,6 @@
 //! Runs a script from standard input, and writes its answers to standard output.
 #![tactic(auto)]
+
 ghost use Rattle.std.specs.Prelude.{◌≡◌, ℕ, drop, IfOk, IfErr, IsErr, IsOk};
 ghost use Rattle.std.specs.IoError.{error_kind};
 ghost use Rattle.lego_words.specs.Words.{IsUsage, texts};
@@ -60,9 +61,5 @@ fn exit_status<S: Source, K: Sink>(
 fn behind_name(words: &[String]) -> &[String]
     ensures { result.now ≡ drop 1 words.now }
 {
-    if words.is_empty() {
-        words
-    } else {
-        &words[1..]
-    }
+    if words.is_empty() { words } else { &words[1..] }
 }

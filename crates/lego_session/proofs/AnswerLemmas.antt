@@ -1,12 +1,12 @@
 -- What is written for a command is its answer.
-use Rattle.std.proofs.Common.{◌≡◌, ℕ, ◌≤◌, length, true, false, Option, Some, None, Result, Ok, Err, IfOk, IfErr, IfSome, OnErr, inl, inr, sym, ◌∙◌, subst}
+use Rattle.std.proofs.Common.{◌≡◌, ℕ, ◌<◌, ◌≤◌, List, length, refl, true, false, Option, Some, None, Result, Ok, Err, IfOk, IfErr, IfSome, OnErr, inl, inr, sym, ◌∙◌, subst}
 use Rattle.lego_base.specs.Names.{AreDistinct}
 use Rattle.lego_base.specs.declared.place.Place.{Place}
 use Rattle.lego_grammar.specs.Grammar.{Names}
 use Rattle.lego_grammar.specs.Written.{WrittenCommand}
 use Rattle.lego_lexer.specs.Commands.{CommandText}
 use Rattle.lego_session.specs.Sessions.{Session}
-use Rattle.lego_session.specs.Answers.{IsNumbering, IsNumberedCommand, Answers, scope_of}
+use Rattle.lego_session.specs.Answers.{IsNumbering, IsNumberedCommand, IsUnread, Answers, scope_of}
 use Rattle.lego_session.specs.Names.{IsKnownSession}
 use Rattle.lego_session.specs.Reading.{is_built}
 use Rattle.lego_session.specs.private.Refusals.{IsRefusalOf}
@@ -14,6 +14,7 @@ use Rattle.lego_session.specs.Step.{Step, IsRefusal}
 use Rattle.lego_session.specs.private.Unread.{IsUnreadBy, IsWritten}
 use Rattle.lego_session.specs.declared.answers.Answered.{Answered}
 use Rattle.lego_session.specs.declared.refusal.Cause.{Cause}
+use Rattle.lego_session.specs.declared.refusal.Cause.TheVariants.{LongCommand}
 use Rattle.lego_session.specs.declared.refusal.Refusal.{Refusal}
 use Rattle.lego_session.specs.declared.session.Answer.{Answer}
 use Rattle.lego_session.proofs.KnownLemmas.{answered_known}
@@ -50,6 +51,19 @@ unread_written limit held names es c p cause refusal (Some a) numbering (inl mem
 unread_written limit held names es c p cause refusal (Some a) numbering (inr h) (inr is) w =
     subst (λ r. Answers limit held es c (record { refused = r; text = a.text }) names es) (sym w.1)
     (subst (λ t. Answers limit held es c (record { refused = true; text = t }) names es) (sym (w.2 ∙ is.3)) (Answers.unread numbering h))
+
+-- too many bytes, with their refusal written down: whichever they are
+pub long_written : (names : Names) (es : Session) (p : Place) (count : ℕ) (refusal : Refusal) (written : Option Answered)
+    → IsNumbering names → 65536 < count → IsRefusalOf names (scope_of es) p (LongCommand count) refusal.place refusal.cause refusal.text
+    → IsWritten (Err refusal) written
+    → IfSome written (λ a. (limit : ℕ) (bytes : List ℕ) → count ≡ length bytes
+    → Answers limit names es (record { place = p; bytes = bytes }) (record { refused = a.refused; text = a.text }) names es)
+long_written names es p count refusal None numbering long is w = tt
+long_written names es p count refusal (Some a) numbering long is w = λ limit bytes e.
+    unread_written limit names names es (record { place = p; bytes = bytes }) p (LongCommand count) refusal (Some a) numbering
+    (inr (subst (λ n. IsUnread names names (record { place = p; bytes = bytes }) p (LongCommand n)) (sym e)
+    (IsUnread.long refl (subst (λ n. 65536 < n) e long))))
+    is w
 
 -- a command that ran, written down
 pub command_written : (limit : ℕ) (held names : Names) (old new : Session) (c : CommandText) (o : WrittenCommand) (written : Option Answered)

@@ -102,9 +102,10 @@ module _ (place : Place) (from : ℕ) (old bytes : List ℕ) where
       let short : length gap < length old = omega (arith, at, inside) in
       let parts = split_left old bytes gap body e (omega (arith, short)) in
       let some : 0 < length parts.0 = omega (arith, short, ap length parts.1, length-append gap parts.0) in
-      let before = k gap parts.0 parts.1 blank (front_begins parts.0 bytes some (subst BeginsToken parts.2 begins)) in
-      (before.0,
-      is ∙ (ap (λ xs. xs ++ take (65536 - length xs) bytes) before.1 ∙ (take_more_of 65536 parts.0 bytes ∙ ap (take 65536) (sym parts.2))))
+      let before = k gap parts.0 parts.1 blank (front_begins parts.0 bytes some (subst BeginsToken parts.2 begins)) in (
+        before.0,
+        is ∙ (ap (λ xs. xs ++ take (65536 - length xs) bytes) before.1 ∙ (take_more_of 65536 parts.0 bytes ∙ ap (take 65536) (sym parts.2))),
+      )
 
   -- it begins among the new bytes
   module _ (here : Place) (is : here ≡ behind place old) (at start : ℕ) (at_is : at ≡ min (start - (from + length old)) (length bytes)) where
@@ -116,9 +117,10 @@ module _ (place : Place) (from : ℕ) (old bytes : List ℕ) where
         let parts = split_right old bytes gap body e long in
         let count : at ≡ length parts.0 = omega (arith, at_is, there, ap length parts.1, length-append old parts.0, ap length parts.2, length-append parts.0 body) in
         let front : take at bytes ≡ parts.0 = ap (λ n. take n bytes) count ∙ (ap (take (length parts.0)) parts.2 ∙ take-append_seam parts.0 body) in
-        let rest : drop at bytes ≡ body = ap (λ n. drop n bytes) count ∙ (ap (drop (length parts.0)) parts.2 ∙ drop-append_seam parts.0 body) in
-        (ap (λ xs. behind here xs) front ∙ (ap (λ p. behind p parts.0) is ∙ (sym (behind-append place old parts.0) ∙ ap (behind place) (sym parts.1))),
-        new_is ∙ ap (take 65536) rest)
+        let rest : drop at bytes ≡ body = ap (λ n. drop n bytes) count ∙ (ap (drop (length parts.0)) parts.2 ∙ drop-append_seam parts.0 body) in (
+          ap (λ xs. behind here xs) front ∙ (ap (λ p. behind p parts.0) is ∙ (sym (behind-append place old parts.0) ∙ ap (behind place) (sym parts.1))),
+          new_is ∙ ap (take 65536) rest,
+        )
 
 -- a front of an open comment is open
 open_front : (depth : ℕ) (xs ys : List ℕ) → behind_comments depth (xs ++ ys) ≡ None → behind_comments depth xs ≡ None

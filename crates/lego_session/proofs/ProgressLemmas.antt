@@ -73,8 +73,21 @@ module _ {p : Progress} {read : List ℕ} {answers : List Reply} (h : HasAnswere
       let there : q.first ≡ behind first_place (h.came ++ e.gap) = e.first ∙ sym (behind-append first_place h.came e.gap) in
       let near = subst (λ (x : Place). IsNear x (length (h.came ++ e.gap))) (sym there) (near_first (h.came ++ e.gap)) in
       let total : length (h.came ++ e.gap) + count ≤ 16777216 =
-      omega (arith, few, within, e.count_is, ap length bytes_are, ap length joined, length-append h.came e.gap, length-append read (take used piece), length-take used piece,
-      length-append h.came (h.bytes ++ take used piece), length-append (e.gap ++ e.body) (59 ∷ []), length-append e.gap e.body, length-append e.body (59 ∷ [])) in
+      omega (
+        arith,
+        few,
+        within,
+        e.count_is,
+        ap length bytes_are,
+        ap length joined,
+        length-append h.came e.gap,
+        length-append read (take used piece),
+        length-take used piece,
+        length-append h.came (h.bytes ++ take used piece),
+        length-append (e.gap ++ e.body) (59 ∷ []),
+        length-append e.gap e.body,
+        length-append e.body (59 ∷ []),
+      ) in
       record {
         line = omega (arith, near.line, total);
         column = omega (arith, near.column, total);

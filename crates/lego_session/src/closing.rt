@@ -62,8 +62,8 @@ impl Progress {
         ensures finished { IsFinished self.now.options.stop self.now.names self.now.session self.now.refused (ending_of rest) (K.taken out.old) (K.taken out.new) result }
         ensures counted { IsCounted (K.faults out.old) (K.faults out.new) result }
     {
-        // So the development reads back as the entries.
-        let _context = self.session.context();
+        // So the development denotes the entries.
+        self.session.headline(&self.names);
         match self.close(alloc, rest, gathered, out) {
             Err(status) => status,
             Ok(()) if self.refused || rest.is_refused() => Status::Refused,

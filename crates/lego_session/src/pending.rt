@@ -97,12 +97,7 @@ impl Pending {
     }
 
     /// Keeps what belongs to the command among the next bytes, of which the first has an index.
-    fn keep(
-        &mut self,
-        base: usize,
-        start: Option<usize>,
-        bytes: &[u8],
-    ) -> Result<(), AllocError>
+    fn keep(&mut self, base: usize, start: Option<usize>, bytes: &[u8]) -> Result<(), AllocError>
         requires near { IsNear self.old.here base }
         requires few { base + length bytes.now ≤ MAX_SCRIPT }
         ensures others { self.new ≡ record self.old { first = self.new.first; kept = self.new.kept } }

@@ -49,7 +49,11 @@ fn a_failed_write_leaves_a_front_of_the_output(rt: HostRuntime) -> Result<(), Fa
             Status::WriteFault
         };
         assert_eq!(rt; status, wanted, "write {number}");
-        assert_eq!(rt; out.taken(), &OUTPUT[..number as usize - 1], "write {number}");
+        assert_eq!(rt;
+            out.taken(),
+            &OUTPUT[..number as usize - 1],
+            "write {number}"
+        );
     }
     Ok(())
 }

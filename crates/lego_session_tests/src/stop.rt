@@ -87,10 +87,19 @@ fn stop_leaves_what_stands_behind_the_piece_of_a_refused_command(
     for _ in 0..10_000 {
         script.push(b' ')?;
     }
-    let cases: [(usize, usize); 5] = [(1, 10_000), (2, 9_999), (3, 10_000), (7, 9_995), (4096, 5_913)];
+    let cases: [(usize, usize); 5] = [
+        (1, 10_000),
+        (2, 9_999),
+        (3, 10_000),
+        (7, 9_995),
+        (4096, 5_913),
+    ];
     for (piece, left) in cases {
         let got = ran(alloc, &["--stop"], &script, piece)?;
-        assert_eq!(rt; got.output.as_slice(), b"refused 1:3 1 BadByte @\n".as_slice());
+        assert_eq!(rt;
+            got.output.as_slice(),
+            b"refused 1:3 1 BadByte @\n".as_slice()
+        );
         assert_eq!(rt; got.status, Status::Refused);
         assert_eq!(rt; got.left, left, "in pieces of {piece}");
     }
@@ -125,7 +134,10 @@ fn stop_comes_before_a_script_that_is_too_long(rt: HostRuntime) -> Result<(), Fa
     assert_eq!(rt; got.left, 16_777_217 - 4096);
     let got = ran(alloc, &[], &script, 4096)?;
     assert_eq!(rt; got.status, Status::TooLong);
-    assert_eq!(rt; got.output.as_slice(), b"A : Prop\nrefused 1:10 5 Unexpected ;\n".as_slice());
+    assert_eq!(rt;
+        got.output.as_slice(),
+        b"A : Prop\nrefused 1:10 5 Unexpected ;\n".as_slice()
+    );
     assert_eq!(rt; got.left, 0);
     Ok(())
 }
@@ -154,7 +166,10 @@ fn steps_are_heard(rt: HostRuntime) -> Result<(), Fail> {
     for texts in [["--steps", "1"].as_slice(), ["--steps=10000000"].as_slice()] {
         let got = ran(rt.alloc(), texts, b"[A:Prop];", 9)?;
         assert_eq!(rt; got.status, Status::Accepted, "{texts:?}");
-        assert_eq!(rt; got.output.as_slice(), b"A : Prop\nExplicit;\n[A:Prop];\n".as_slice());
+        assert_eq!(rt;
+            got.output.as_slice(),
+            b"A : Prop\nExplicit;\n[A:Prop];\n".as_slice()
+        );
     }
     Ok(())
 }

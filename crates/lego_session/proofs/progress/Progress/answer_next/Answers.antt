@@ -56,7 +56,7 @@ returns-in_ok-answered-in-Command-clause-next c = λ read answers h.
     let e = subst (IsTaken q (behind first_place h.came) (length h.came) h.bytes bytes) c.in-Command.is (c.in-Ok.ensures.taken _ _ _ h.pending) in (
       a.refused,
       just_answered h q bytes c.in-Command.used c.in-Command.count e c.requires.goes_on _ (record { refused = a.refused; text = a.text })
-      (ap (λ p. p.pending) others) (ap (λ p. p.options) others) (ap (λ p. p.refused || a.refused) others)
-      (c.in_ok-answered-in-Command.ensures.answered (e.body ++ 59 ∷ []) e.count_is (kept_is h q bytes c.in-Command.used c.in-Command.count e))
-      c.in_ok-answered-in-Command.ensures.still_known,
+          (ap (λ p. p.pending) others) (ap (λ p. p.options) others) (ap (λ p. p.refused || a.refused) others)
+          (c.in_ok-answered-in-Command.ensures.answered (e.body ++ 59 ∷ []) e.count_is (kept_is h q bytes c.in-Command.used c.in-Command.count e))
+          c.in_ok-answered-in-Command.ensures.still_known,
     )
