@@ -8,14 +8,14 @@ use std::test::*;
 
 /// What a run wrote, how it ended, and how many bytes it left.
 #[derive(Drop)]
-struct Ran {
+struct Ended {
     output: Vec<u8>,
     status: Status,
     left: usize,
 }
 
 /// Runs a script that comes in pieces, with these words.
-fn ran(alloc: Global, texts: &[&str], script: &[u8], piece: usize) -> Result<Ran, Fail>
+fn ran(alloc: Global, texts: &[&str], script: &[u8], piece: usize) -> Result<Ended, Fail>
     requires { 0 < piece }
 {
     let mut words = Vec::new(alloc);
@@ -25,7 +25,7 @@ fn ran(alloc: Global, texts: &[&str], script: &[u8], piece: usize) -> Result<Ran
     let mut source = MemSource::new(alloc, script, piece, &[])?;
     let mut out = MemSink::new(alloc, 1000, 1000, &[])?;
     let status = run(alloc, words.as_slice(), &mut source, &mut out);
-    Ok(Ran {
+    Ok(Ended {
         output: Vec::from_slice(alloc, out.taken())?,
         status,
         left: source.left().len(),
