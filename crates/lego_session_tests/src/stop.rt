@@ -123,26 +123,6 @@ fn a_failed_write_leaves_what_stands_behind_its_piece(rt: HostRuntime) -> Result
 }
 
 #[test]
-fn stop_comes_before_a_script_that_is_too_long(rt: HostRuntime) -> Result<(), Fail> {
-    let alloc = rt.alloc();
-    let mut script = Vec::from_slice(alloc, b"[A:Prop];;")?;
-    while script.len() < 16_777_217 {
-        script.push(b' ')?;
-    }
-    let got = ran(alloc, &["--stop"], &script, 4096)?;
-    assert_eq!(rt; got.status, Status::Refused);
-    assert_eq!(rt; got.left, 16_777_217 - 4096);
-    let got = ran(alloc, &[], &script, 4096)?;
-    assert_eq!(rt; got.status, Status::TooLong);
-    assert_eq!(rt;
-        got.output.as_slice(),
-        b"A : Prop\nrefused 1:10 5 Unexpected ;\n".as_slice()
-    );
-    assert_eq!(rt; got.left, 0);
-    Ok(())
-}
-
-#[test]
 fn wrong_words_are_answered_and_nothing_is_read(rt: HostRuntime) -> Result<(), Fail> {
     let cases: [(&[&str], &[u8]); 6] = [
         (&["--steps"], b"usage 1\n"),
