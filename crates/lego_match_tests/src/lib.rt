@@ -1,5 +1,0 @@
-//! Tests of matching, over its public call alone.
-#![tactic(auto)]
-
-#[cfg(test)]
-mod matching;
