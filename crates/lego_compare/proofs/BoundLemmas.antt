@@ -3,7 +3,7 @@ use Rattle.std.proofs.Common.{◌≡◌, ℕ, zero, suc, ◌≤◌, Some, ap, ar
 use Rattle.lego_term.specs.Trees.{Core, loose}
 use Rattle.lego_term.specs.Sequences.{head_step, after}
 use Rattle.lego_term.specs.BodyMap.{BodyMap, bodies_in, AreClosed}
-use Rattle.lego_laws.proofs.After.{next}
+use Rattle.lego_laws.proofs.lemmas.reduction.After.{next}
 use Rattle.lego_reduce.proofs.StepLemmas.{loose_step}
 
 pub loose_after : (bodies : BodyMap) → AreClosed bodies → (n : ℕ) (t u : Core) → after (head_step (bodies_in bodies)) n t ≡ Some u → loose u ≤ loose t

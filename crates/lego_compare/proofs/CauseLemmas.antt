@@ -5,7 +5,7 @@ use Rattle.lego_term.specs.Sequences.{normal_step, CostMoreThan, MoreThan}
 use Rattle.lego_laws.specs.Parallel.{CoreBodies, AreClosed}
 use Rattle.lego_laws.specs.Counting.{Walked}
 use Rattle.lego_laws.specs.Facing.{Order}
-use Rattle.lego_laws.proofs.Counted.{long_walks_are_costly}
+use Rattle.lego_laws.proofs.lemmas.comparison.Counted.{long_walks_are_costly}
 use Rattle.lego_reduce.specs.declared.fault.ReduceFault.{ReduceFault}
 use Rattle.lego_reduce.specs.declared.fault.ReduceFault.TheVariants as reduce
 use Rattle.lego_reduce.specs.declared.head_form.Reduced.{Reduced}

@@ -8,8 +8,8 @@ use Rattle.lego_laws.specs.Parallel.{CoreBodies, AreClosed}
 use Rattle.lego_laws.specs.Counting.{Walked}
 use Rattle.lego_laws.specs.Facing.{Order, Cumulativity, root, IsAsked}
 use Rattle.lego_laws.specs.Comparison.{Compared, m_equal}
-use Rattle.lego_laws.proofs.Comparing.{comparison_is_exact, gathered}
-use Rattle.lego_laws.proofs.Satisfying.{InOrder}
+use Rattle.lego_laws.proofs.lemmas.comparison.Comparing.{comparison_is_exact, gathered}
+use Rattle.lego_laws.proofs.lemmas.inference.Satisfying.{InOrder}
 use Rattle.lego_level.specs.declared.constraint.Constraint.{Constraint}
 use Rattle.lego_level.specs.Graphs.{pairs_of}
 use Rattle.lego_compare.specs.Answers.{IsDecidedBy, IsLevelIn}

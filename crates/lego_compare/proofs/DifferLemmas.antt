@@ -6,7 +6,7 @@ use Rattle.lego_term.specs.Sequences.{HeadForm}
 use Rattle.lego_laws.specs.Parallel.{CoreBodies, AreClosed}
 use Rattle.lego_laws.specs.Facing.{Order, Cumulativity, Conversion, order_at, crossed, Faces, order_under}
 use Rattle.lego_laws.specs.Comparison.{AreInOrder, same_root}
-use Rattle.lego_laws.proofs.Differing.{difference_excludes_below, difference_excludes_conversion}
+use Rattle.lego_laws.proofs.lemmas.comparison.Differing.{difference_excludes_below, difference_excludes_conversion}
 use Rattle.lego_compare.specs.Answers.{RelatedAt, DifferAt}
 use Rattle.lego_compare.proofs.AskedLemmas.{turned, whole}
 use Rattle.lego_compare.proofs.PartLemmas.{crossed_more}

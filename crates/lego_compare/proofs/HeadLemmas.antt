@@ -8,7 +8,7 @@ use Rattle.lego_laws.specs.Parallel.{CoreBodies}
 use Rattle.lego_laws.specs.HeadForms.{IsHeadForm}
 use Rattle.lego_laws.specs.Counting.{PartsWalked, through_parts}
 use Rattle.lego_laws.specs.Comparison.{m_heads}
-use Rattle.lego_laws.proofs.Stuck.{app_stuck, fst_stuck, snd_stuck}
+use Rattle.lego_laws.proofs.lemmas.reduction.Stuck.{app_stuck, fst_stuck, snd_stuck}
 use Rattle.lego_level.specs.declared.constraint.Constraint.{Constraint}
 use Rattle.lego_compare.specs.declared.relation.Relation.{Relation}
 use Rattle.lego_compare.specs.declared.stop.Stop.{Stop}

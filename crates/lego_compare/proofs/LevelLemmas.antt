@@ -8,8 +8,8 @@ use Rattle.lego_term.specs.Parts.{Branch, parts_of}
 use Rattle.lego_term.specs.Sequences.{HeadForm}
 use Rattle.lego_laws.specs.Parallel.{CoreBodies}
 use Rattle.lego_laws.specs.Facing.{Order, Faces, Asks, IsAsked}
-use Rattle.lego_laws.proofs.HeadSteps.{head_steps}
-use Rattle.lego_laws.proofs.LevelsKept.{Levels, levels_run}
+use Rattle.lego_laws.proofs.lemmas.reduction.HeadSteps.{head_steps}
+use Rattle.lego_laws.proofs.lemmas.inference.LevelsKept.{Levels, levels_run}
 use Rattle.lego_compare.specs.Answers.{IsLevelIn, of_left, of_right, of_body}
 
 alone : (l : Level) → Contains (l ∷ []) l

@@ -8,11 +8,11 @@ use Rattle.lego_term.specs.Sequences.{normal_step, after, Ends}
 use Rattle.lego_laws.specs.Parallel.{CoreBodies}
 use Rattle.lego_laws.specs.HeadForms.{IsHeadForm}
 use Rattle.lego_laws.specs.Counting.{PartsReach, within, behind, PartsEnd, no_part, one_more}
-use Rattle.lego_laws.proofs.After.{runs, EndsBefore, at_most, after_inside, after_add}
-use Rattle.lego_laws.proofs.NormalSteps.{IsFunction, IsOperand, in_function, in_argument, in_fst, in_snd}
-use Rattle.lego_laws.proofs.Stuck.{app_stuck, fst_stuck, snd_stuck}
-use Rattle.lego_laws.proofs.Counted.{head_after}
-use Rattle.lego_laws.proofs.Reaching.{parts_are_reached}
+use Rattle.lego_laws.proofs.lemmas.reduction.After.{runs, EndsBefore, at_most, after_inside, after_add}
+use Rattle.lego_laws.proofs.lemmas.reduction.NormalSteps.{IsFunction, IsOperand, in_function, in_argument, in_fst, in_snd}
+use Rattle.lego_laws.proofs.lemmas.reduction.Stuck.{app_stuck, fst_stuck, snd_stuck}
+use Rattle.lego_laws.proofs.lemmas.comparison.Counted.{head_after}
+use Rattle.lego_laws.proofs.lemmas.comparison.Reaching.{parts_are_reached}
 use Rattle.lego_reduce.proofs.SequenceLemmas.{after-plus}
 use Rattle.lego_compare.specs.Answers.{ReachesTooLarge}
 use Rattle.lego_compare.specs.Paths.{Leads, l_steps, l_heads, FormLeads, l_part, Large, tree, path}

@@ -8,7 +8,7 @@ use Rattle.lego_term.specs.declared.binder.Mark.TheVariants.{Plain}
 use Rattle.lego_term.specs.Levels.{Assignment, variable_level}
 use Rattle.lego_term.specs.Trees.{Core, Var, Const, Univ, Sigma, Pair, App, Let}
 use Rattle.lego_laws.specs.Entries.{Entry, core_bodies}
-use Rattle.lego_laws.proofs.RuleTypesUnique.{head_forms_are_unique}
+use Rattle.lego_laws.proofs.lemmas.principal.RuleTypesUnique.{head_forms_are_unique}
 use Rattle.lego_lexer.specs.Commands.{CommandText, Whole}
 use Rattle.lego_lexer.proofs.UniqueCuts.{scripts_unique}
 use Rattle.lego_lexer.proofs.UniqueTokens.{tokens_unique}

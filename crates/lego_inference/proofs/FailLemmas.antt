@@ -8,7 +8,7 @@ use Rattle.lego_laws.specs.Parallel.{AreClosed}
 use Rattle.lego_laws.specs.Entries.{Entry, core_bodies}
 use Rattle.lego_laws.specs.RuleTypes.{nodes}
 use Rattle.lego_laws.specs.Places.{Want, Nothing, Stated, Site, RuleTypeAt, Part, WantsHead, AreShaped, ArePartsShaped, Comes, IsReached, IsNew, WantedHead, WantedPair, Fulfils, BelowAtZero}
-use Rattle.lego_laws.proofs.Shaped.{typed_cores_have_wanted_heads, typed_cores_have_wanted_pairs}
+use Rattle.lego_laws.proofs.lemmas.principal.Shaped.{typed_cores_have_wanted_heads, typed_cores_have_wanted_pairs}
 use Rattle.lego_level.specs.declared.constraint.Constraint.{Constraint}
 use Rattle.lego_compare.specs.Answers.{ReachesTooLarge}
 use Rattle.lego_inference.specs.declared.fault.Counted.TheVariants.{Levels}

@@ -14,8 +14,8 @@ use Rattle.lego_laws.specs.RuleTypes.{RuleType, nodes}
 use Rattle.lego_laws.specs.Principal.{core_types}
 use Rattle.lego_laws.specs.Places.{Want, Nothing, AType, Site, behind, under, Part, RuleTypeAt, Stands, IsFormer, a_product, a_sigma, IsConstraintOfCore, WantsHead, IsShaped, AreShaped, ArePartsShaped}
 use Rattle.lego_laws.specs.Ranges.{level_bound, levels_bound, Context, FitsBetween, sort_term, sort_at_most}
-use Rattle.lego_laws.proofs.InferenceLaws.{fits_lambda, fits_proposition, fits_product, fits_sigma, contexts_widen, contexts_grow}
-use Rattle.lego_laws.proofs.Nodes.{nodes_are_counted}
+use Rattle.lego_laws.proofs.lemmas.inference.InferenceLaws.{fits_lambda, fits_proposition, fits_product, fits_sigma, contexts_widen, contexts_grow}
+use Rattle.lego_laws.proofs.lemmas.principal.Nodes.{nodes_are_counted}
 use Rattle.lego_level.specs.declared.constraint.Constraint.{Constraint}
 use Rattle.lego_level.specs.Graphs.{pairs_of, pair_of}
 use Rattle.lego_inference.specs.declared.rules.Formed.{Formed}

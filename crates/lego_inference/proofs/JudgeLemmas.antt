@@ -31,7 +31,7 @@ use Rattle.lego_inference.proofs.FormerRules.{product_inferred, sigma_inferred, 
 use Rattle.lego_inference.proofs.OtherRules.{first_inferred, second_inferred}
 use Rattle.lego_inference.proofs.ReadyLemmas.{few_locals}
 use Rattle.lego_inference.proofs.LocalLemmas.{length-map}
-use Rattle.lego_laws.proofs.SolvedCores.{heights}
+use Rattle.lego_laws.proofs.lemmas.principal.SolvedCores.{heights}
 use Rattle.lego_inference.proofs.ShapeLemmas.{none_before, next_shaped, shaped_nothing, shaped_stated}
 
 pub adds_none : (x : Gathered) → Adds x x 0 []

@@ -10,7 +10,7 @@ use Rattle.lego_laws.specs.RuleTypes.{RuleType, nodes}
 use Rattle.lego_laws.specs.Principal.{core_types}
 use Rattle.lego_laws.specs.Places.{Want, Site, RuleTypeAt, Stands, IsConstraintOfCore}
 use Rattle.lego_laws.specs.Ranges.{level_bound, raised_level, FitsBetween}
-use Rattle.lego_laws.proofs.InferenceLaws.{fits_prop, fits_variable, fits_constant, fits_universe}
+use Rattle.lego_laws.proofs.lemmas.inference.InferenceLaws.{fits_prop, fits_variable, fits_constant, fits_universe}
 use Rattle.lego_level.specs.declared.constraint.Constraint.{Constraint}
 use Rattle.lego_level.specs.Graphs.{pairs_of}
 use Rattle.lego_inference.specs.private.Gathering.{asked_at}

@@ -16,11 +16,11 @@ use Rattle.lego_laws.specs.Principal.{core_types}
 use Rattle.lego_laws.specs.Facing.{Cumulativity}
 use Rattle.lego_laws.specs.Places.{Want, Nothing, AType, AFunction, APair, Stated, Site, behind, under, Part, RuleTypeAt, Stands, IsConstraintOfCore, WantedPair, WantsHead, Fulfils, IsShaped, AreShaped}
 use Rattle.lego_laws.specs.Ranges.{level_bound, levels_bound, pairs_bound, Context, FitsBetween, sort_term}
-use Rattle.lego_laws.proofs.InferenceLaws.{fits_application, fits_pair, fits_first, fits_second, fits_by_others, contexts_widen}
-use Rattle.lego_laws.proofs.FitsLocal.{fits_local}
-use Rattle.lego_laws.proofs.LevelsWithin.{levels-instantiate, levels-star}
-use Rattle.lego_laws.proofs.HeadSteps.{head_steps}
-use Rattle.lego_laws.proofs.Nodes.{nodes_are_counted}
+use Rattle.lego_laws.proofs.lemmas.inference.InferenceLaws.{fits_application, fits_pair, fits_first, fits_second, fits_by_others, contexts_widen}
+use Rattle.lego_laws.proofs.lemmas.inference.FitsLocal.{fits_local}
+use Rattle.lego_laws.proofs.lemmas.inference.LevelsWithin.{levels-instantiate, levels-star}
+use Rattle.lego_laws.proofs.lemmas.reduction.HeadSteps.{head_steps}
+use Rattle.lego_laws.proofs.lemmas.principal.Nodes.{nodes_are_counted}
 use Rattle.lego_level.specs.declared.constraint.Constraint.{Constraint}
 use Rattle.lego_level.specs.Graphs.{pairs_of}
 use Rattle.lego_compare.specs.Answers.{IsDecidedBy, IsLevelIn}

@@ -11,9 +11,9 @@ use Rattle.lego_laws.specs.Principal.{core_types}
 use Rattle.lego_laws.specs.Facing.{Cumulativity}
 use Rattle.lego_laws.specs.Places.{Want, Nothing, AType, Stated, Site, behind, under, Part, Stands, IsConstraintOfCore}
 use Rattle.lego_laws.specs.Ranges.{levels_bound, pairs_bound, Context, FitsBetween}
-use Rattle.lego_laws.proofs.InferenceLaws.{fits_pair, fits_by_others, contexts_widen}
-use Rattle.lego_laws.proofs.Agreeing.{pairs_bound-append}
-use Rattle.lego_laws.proofs.LevelsWithin.{levels-instantiate}
+use Rattle.lego_laws.proofs.lemmas.inference.InferenceLaws.{fits_pair, fits_by_others, contexts_widen}
+use Rattle.lego_laws.proofs.lemmas.inference.Agreeing.{pairs_bound-append}
+use Rattle.lego_laws.proofs.lemmas.inference.LevelsWithin.{levels-instantiate}
 use Rattle.lego_level.specs.declared.constraint.Constraint.{Constraint}
 use Rattle.lego_level.specs.Graphs.{pairs_of}
 use Rattle.lego_compare.specs.Answers.{IsDecidedBy}

@@ -4,7 +4,7 @@ use Rattle.lego_term.specs.Trees.{Core}
 use Rattle.lego_laws.specs.Entries.{Entry}
 use Rattle.lego_laws.specs.RuleTypes.{nodes}
 use Rattle.lego_laws.specs.Places.{Want, Nothing, AType, OfWrittenType, Site, Part, Within, Task, Stands, Comes, IsReached, allowance}
-use Rattle.lego_laws.proofs.Nodes.{parts_stand_apart}
+use Rattle.lego_laws.proofs.lemmas.principal.Nodes.{parts_stand_apart}
 
 -- a part stands where the whole does
 pub stands_part : {t : Task} {s s' : Site} {n n' : Core} {w w' : Want} {i : ℕ} → Stands t s n w → Part t.entries s n w i s' n' w' → Stands t s' n' w'

@@ -9,9 +9,9 @@ use Rattle.lego_laws.specs.Entries.{Entry, entry_of, core_bodies}
 use Rattle.lego_laws.specs.RuleTypes.{nodes}
 use Rattle.lego_laws.specs.Places.{Want, Site, RuleTypeAt, Part}
 use Rattle.lego_laws.specs.Ranges.{levels_bound}
-use Rattle.lego_laws.proofs.Scoped.{rule_types_are_scoped, scoped_head}
-use Rattle.lego_laws.proofs.SolvedCores.{heights, positive}
-use Rattle.lego_laws.proofs.LevelsWithin.{levels-instantiate}
+use Rattle.lego_laws.proofs.lemmas.principal.Scoped.{rule_types_are_scoped, scoped_head}
+use Rattle.lego_laws.proofs.lemmas.principal.SolvedCores.{heights, positive}
+use Rattle.lego_laws.proofs.lemmas.inference.LevelsWithin.{levels-instantiate}
 use Rattle.lego_inference.specs.Locals.{NamesEntries}
 use Rattle.lego_inference.specs.private.Judging.{IsReady}
 use Rattle.lego_inference.proofs.LeafLemmas.{leaves-instantiate}

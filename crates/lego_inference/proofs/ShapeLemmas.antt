@@ -7,9 +7,9 @@ use Rattle.lego_term.specs.Sequences.{HeadForm}
 use Rattle.lego_laws.specs.Entries.{Entry, core_bodies}
 use Rattle.lego_laws.specs.Places.{Want, Nothing, AType, Stated, Site, RuleTypeAt, Part, WantsHead, Fulfils, IsFulfilled, BelowAtZero, IsShaped, AreShaped, ArePartsShaped}
 use Rattle.lego_laws.specs.Ranges.{sort_term}
-use Rattle.lego_laws.proofs.ShapedParts.{parts_give_shapes}
-use Rattle.lego_laws.proofs.Nodes.{parts_are_numbered}
-use Rattle.lego_laws.proofs.RuleTypesUnique.{one_rule_type}
+use Rattle.lego_laws.proofs.lemmas.principal.ShapedParts.{parts_give_shapes}
+use Rattle.lego_laws.proofs.lemmas.principal.Nodes.{parts_are_numbered}
+use Rattle.lego_laws.proofs.lemmas.principal.RuleTypesUnique.{one_rule_type}
 
 no_stated : {w : Want} (a : Core) → WantsHead w → w ≡ Stated a → ⊥
 no_stated a WantsHead.a_type e = cc

@@ -10,8 +10,8 @@ use Rattle.lego_laws.specs.Principal.{core_types, entries_bound}
 use Rattle.lego_laws.specs.Facing.{Cumulativity}
 use Rattle.lego_laws.specs.Places.{Want, Nothing, AType, Stated, Site, behind, Aim, AnyType, BeAType, OfType, OfWrittenType, want_of, stated_in, Task, IsNew, Stands, Within, Comes, IsReached, HasShape, IsShaped, ArePartsShaped, IsConstraintOfCore, WantsHead, allowance}
 use Rattle.lego_laws.specs.Ranges.{levels_bound, locals_bound, pairs_bound, Context, FitsBetween, FitsWantedBetween, FitsWrittenBetween, sort_term}
-use Rattle.lego_laws.proofs.InferenceLaws.{fits_against, fits_written, contexts_widen}
-use Rattle.lego_laws.proofs.HeldWithin.{held_within}
+use Rattle.lego_laws.proofs.lemmas.inference.InferenceLaws.{fits_against, fits_written, contexts_widen}
+use Rattle.lego_laws.proofs.lemmas.principal.HeldWithin.{held_within}
 use Rattle.lego_level.specs.declared.constraint.Constraint.{Constraint}
 use Rattle.lego_level.specs.Graphs.{pairs_of}
 use Rattle.lego_compare.specs.Answers.{IsDecidedBy}

@@ -1,6 +1,4 @@
 pub mod Entries
-pub mod EntryCode
-pub mod LocalCode
 pub mod Locals
 pub mod Causes
 pub mod Failures

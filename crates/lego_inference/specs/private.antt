@@ -3,3 +3,5 @@ pub mod Faults
 pub mod Gathering
 pub mod Judging
 pub mod Wanting
+pub mod EntryCode
+pub mod LocalCode

@@ -26,7 +26,7 @@ pub struct Locals {
 impl Model for Locals {
     ghost use Rattle.std.specs.Prelude.{List, reverse as reversed, length as len_of, ◌≤◌};
     ghost use Rattle.std.specs.Coded.{coded_list};
-    ghost use Rattle.lego_inference.specs.LocalCode.{local_code};
+    ghost use Rattle.lego_inference.specs.private.LocalCode.{local_code};
     ghost use Rattle.lego_inference.specs.declared.locals.Local.{Local as Item};
 
     ghost Value = { List Item };

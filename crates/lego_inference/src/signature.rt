@@ -27,7 +27,7 @@ impl Model for Signature {
     ghost use Rattle.lego_term.specs.BodyMap.{bodies_in};
     ghost use Rattle.lego_laws.specs.Entries.{core_bodies};
     ghost use Rattle.lego_inference.specs.Entries.{laws_entries, numbers_of, AreClosedEntries};
-    ghost use Rattle.lego_inference.specs.EntryCode.{entry_code};
+    ghost use Rattle.lego_inference.specs.private.EntryCode.{entry_code};
     ghost use Rattle.lego_inference.specs.declared.entry.Entry.{Entry as Item};
 
     ghost Value = { List Item };

@@ -3,7 +3,7 @@ use Rattle.std.proofs.Common.{List}
 use Rattle.lego_term.specs.Levels.{Assignment}
 use Rattle.lego_laws.specs.Entries.{entries_at}
 use Rattle.lego_laws.specs.Expansion.{HoldsPurely}
-use Rattle.lego_laws.proofs.ExpansionLaws.{expansion}
+use Rattle.lego_laws.proofs.lemmas.constants.ExpansionLaws.{expansion}
 use Rattle.lego_kernel.specs.Contexts.{IsContext}
 use Rattle.lego_kernel.specs.Entries.{laws_entries}
 use Rattle.lego_kernel.specs.declared.entry.Entry.{Entry as Item}

@@ -1,5 +1,5 @@
 pub mod Entries
-pub mod EntryCode
 pub mod Simple
 pub mod Contexts
 pub mod Assuming
+pub mod private

@@ -34,7 +34,7 @@ impl Model for Context {
     ghost use Rattle.std.specs.Prelude.{List, map, Some};
     ghost use Rattle.lego_kernel.specs.declared.entry.Entry.{Entry as Item};
     ghost use Rattle.std.specs.Coded.{coded_list};
-    ghost use Rattle.lego_kernel.specs.EntryCode.{entry_code};
+    ghost use Rattle.lego_kernel.specs.private.EntryCode.{entry_code};
     ghost use Rattle.lego_kernel.specs.Contexts.{IsContext, KeepsNames};
 
     ghost Value = { List Item };

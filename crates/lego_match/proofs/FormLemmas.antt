@@ -6,12 +6,12 @@ use Rattle.lego_term.specs.Parts.{shape_of, Branch, plain_part, bound_part, part
 use Rattle.lego_term.specs.Sequences.{or_else, head_step, normal_step, after, Ends, HeadForm, NormalForm}
 use Rattle.lego_laws.specs.Parallel.{CoreBodies}
 use Rattle.lego_laws.specs.HeadForms.{IsHeadForm}
-use Rattle.lego_laws.proofs.After.{next, at_most, after_add}
-use Rattle.lego_laws.proofs.CommonReducts.{step-parallel}
-use Rattle.lego_laws.proofs.Counted.{head_after}
-use Rattle.lego_laws.proofs.HeadSteps.{either_some, mapped_from}
-use Rattle.lego_laws.proofs.NormalSteps.{normal_step-step, head_first}
-use Rattle.lego_laws.proofs.Stuck.{kept, app_stuck, fst_stuck, snd_stuck}
+use Rattle.lego_laws.proofs.lemmas.reduction.After.{next, at_most, after_add}
+use Rattle.lego_laws.proofs.lemmas.reduction.CommonReducts.{step-parallel}
+use Rattle.lego_laws.proofs.lemmas.comparison.Counted.{head_after}
+use Rattle.lego_laws.proofs.lemmas.reduction.HeadSteps.{either_some, mapped_from}
+use Rattle.lego_laws.proofs.lemmas.reduction.NormalSteps.{normal_step-step, head_first}
+use Rattle.lego_laws.proofs.lemmas.reduction.Stuck.{kept, app_stuck, fst_stuck, snd_stuck}
 use Rattle.lego_reduce.proofs.SequenceLemmas.{after-plus}
 
 none_first : {X : Type 0} (o p : Option X) → or_else o p ≡ None → (o ≡ None) × (p ≡ None)

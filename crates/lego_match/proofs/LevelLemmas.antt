@@ -6,8 +6,8 @@ use Rattle.lego_term.specs.declared.level.Level.{Level}
 use Rattle.lego_term.specs.Trees.{Tree, Core, Var, Const, Prop, Univ, Pi, Lam, App, Sigma, Pair, Fst, Snd, Let, Bodies, shape, EqualButLevels}
 use Rattle.lego_term.specs.Sequences.{or_else, head_step, normal_step, after, Ends}
 use Rattle.lego_laws.specs.Parallel.{CoreBodies}
-use Rattle.lego_laws.proofs.After.{next, at_most}
-use Rattle.lego_laws.proofs.Mapping.{mapped_bodies, head_step-map}
+use Rattle.lego_laws.proofs.lemmas.reduction.After.{next, at_most}
+use Rattle.lego_laws.proofs.lemmas.reduction.Mapping.{mapped_bodies, head_step-map}
 use Rattle.lego_match.specs.Pairs.{AgreeIn}
 use Rattle.lego_match.proofs.AgreementLemmas.{levels_aside}
 

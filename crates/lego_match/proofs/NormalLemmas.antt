@@ -5,8 +5,8 @@ use Rattle.lego_term.specs.Trees.{Core, Pi, Lam, App, Sigma, Pair, Fst, Snd, Let
 use Rattle.lego_term.specs.Parts.{shape_of, Branch, parts_of}
 use Rattle.lego_term.specs.Sequences.{normal_step, after, HeadForm, NormalForm}
 use Rattle.lego_laws.specs.Parallel.{CoreBodies}
-use Rattle.lego_laws.proofs.After.{at_most}
-use Rattle.lego_laws.proofs.Counted.{head_after}
+use Rattle.lego_laws.proofs.lemmas.reduction.After.{at_most}
+use Rattle.lego_laws.proofs.lemmas.comparison.Counted.{head_after}
 use Rattle.lego_match.specs.Holes.{FreeHoles, has_free_head}
 use Rattle.lego_match.specs.Pairs.{AgreeIn, AgreeBefore, inside, Corresponds, here, turn, PairsAreOfNormalForms}
 use Rattle.lego_match.proofs.FormLemmas.{Ended, ended, behind_heads, end_is_head, head_of_normal}

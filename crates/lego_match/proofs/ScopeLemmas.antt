@@ -5,10 +5,10 @@ use Rattle.lego_term.specs.Trees.{Core, Pi, Lam, App, Sigma, Pair, Fst, Snd, Let
 use Rattle.lego_term.specs.Parts.{Shape, APi, ALam, AnApp, ASigma, APair, AFst, ASnd, ALet, shape_of, Branch, parts_of}
 use Rattle.lego_term.specs.Sequences.{head_step, normal_step, after}
 use Rattle.lego_term.specs.BodyMap.{BodyMap, bodies_in, AreClosed}
-use Rattle.lego_laws.proofs.After.{next}
-use Rattle.lego_laws.proofs.NormalSteps.{normal_step-step}
-use Rattle.lego_laws.proofs.HeadSteps.{head_step-step}
-use Rattle.lego_laws.proofs.Scoped.{scoped_step}
+use Rattle.lego_laws.proofs.lemmas.reduction.After.{next}
+use Rattle.lego_laws.proofs.lemmas.reduction.NormalSteps.{normal_step-step}
+use Rattle.lego_laws.proofs.lemmas.reduction.HeadSteps.{head_step-step}
+use Rattle.lego_laws.proofs.lemmas.principal.Scoped.{scoped_step}
 use Rattle.lego_match.specs.Holes.{FreeHoles}
 use Rattle.lego_match.specs.Pairs.{inside, Corresponds, here, turn}
 

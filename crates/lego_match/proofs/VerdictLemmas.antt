@@ -8,8 +8,8 @@ use Rattle.lego_term.specs.BodyMap.{BodyMap, bodies_in, AreClosed}
 use Rattle.lego_term.specs.Sequences.{normal_step, after, NormalForm}
 use Rattle.lego_laws.specs.Parallel.{CoreBodies}
 use Rattle.lego_laws.specs.Counting.{HasSteps}
-use Rattle.lego_laws.proofs.After.{at_most}
-use Rattle.lego_laws.proofs.Counted.{costly}
+use Rattle.lego_laws.proofs.lemmas.reduction.After.{at_most}
+use Rattle.lego_laws.proofs.lemmas.comparison.Counted.{costly}
 use Rattle.lego_reduce.specs.declared.fault.ReduceFault.{ReduceFault}
 use Rattle.lego_reduce.specs.declared.fault.ReduceFault.TheVariants as reduce
 use Rattle.lego_reduce.specs.Reduction.{Reduces}

@@ -7,8 +7,8 @@ use Rattle.lego_term.specs.Parts.{Shape, ALet, shape_of}
 use Rattle.lego_term.specs.Sequences.{head_step, normal_step, after, Ends}
 use Rattle.lego_laws.specs.Parallel.{CoreBodies}
 use Rattle.lego_laws.specs.HeadForms.{IsHeadForm}
-use Rattle.lego_laws.proofs.After.{after_add}
-use Rattle.lego_laws.proofs.Counted.{head_after, head_counted, parts_steps_are_counted}
+use Rattle.lego_laws.proofs.lemmas.reduction.After.{after_add}
+use Rattle.lego_laws.proofs.lemmas.comparison.Counted.{head_after, head_counted, parts_steps_are_counted}
 use Rattle.lego_reduce.specs.declared.fault.ReduceFault.{ReduceFault}
 use Rattle.lego_reduce.specs.declared.fault.ReduceFault.TheVariants as reduce
 use Rattle.lego_reduce.specs.Reduction.{Reduces}

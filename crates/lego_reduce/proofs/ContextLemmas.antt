@@ -12,8 +12,8 @@ use Rattle.lego_term.specs.declared.fault.TermFault.{TermFault}
 use Rattle.lego_term.specs.declared.fault.TermFault.TheVariants as term
 use Rattle.lego_reduce.specs.declared.fault.ReduceFault.{ReduceFault}
 use Rattle.lego_reduce.specs.declared.fault.ReduceFault.TheVariants.{Budget, TooLarge, Memory}
-use Rattle.lego_reduce.specs.Faults.{of_term}
-use Rattle.lego_reduce.specs.Nesting.{Arrives, Goes}
+use Rattle.lego_reduce.specs.private.Faults.{of_term}
+use Rattle.lego_reduce.specs.private.Nesting.{Arrives, Goes}
 use Rattle.lego_reduce.proofs.LargeLemmas.{large_whole}
 use Rattle.lego_reduce.proofs.SequenceLemmas.{after-plus, after-step}
 

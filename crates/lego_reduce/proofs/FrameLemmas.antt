@@ -10,7 +10,7 @@ use Rattle.lego_term.specs.declared.binder.Mark.{Mark}
 use Rattle.lego_term.specs.declared.level.Level.{Level}
 use Rattle.lego_reduce.specs.declared.frames.Frame.{Frame}
 use Rattle.lego_reduce.specs.declared.frames.Frame.TheVariants.{Argument, First, Second}
-use Rattle.lego_reduce.specs.Frames.{plug, plug_one, contract_one}
+use Rattle.lego_reduce.specs.private.Frames.{plug, plug_one, contract_one}
 
 pub plug-push : (fs : List Frame) (f : Frame) (m : Core) → plug (fs ++ f ∷ []) m ≡ plug fs (plug_one f m)
 plug-push [] f m = refl

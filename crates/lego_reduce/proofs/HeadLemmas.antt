@@ -8,8 +8,8 @@ use Rattle.lego_term.specs.declared.fault.TermFault.{TermFault}
 use Rattle.lego_term.specs.declared.fault.TermFault.TheVariants as term
 use Rattle.lego_reduce.specs.declared.fault.ReduceFault.{ReduceFault}
 use Rattle.lego_reduce.specs.declared.fault.ReduceFault.TheVariants.{Budget, TooLarge, Memory}
-use Rattle.lego_reduce.specs.Faults.{of_term}
-use Rattle.lego_reduce.specs.Frames.{Rebuilt, StaysWithin, Turns}
+use Rattle.lego_reduce.specs.private.Faults.{of_term}
+use Rattle.lego_reduce.specs.private.Frames.{Rebuilt, StaysWithin, Turns}
 use Rattle.lego_reduce.specs.Reduction.{Reduces}
 use Rattle.lego_reduce.proofs.SequenceLemmas.{after-more}
 use Rattle.lego_reduce.proofs.StepLemmas.{loose_step}

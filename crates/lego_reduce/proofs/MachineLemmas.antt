@@ -16,8 +16,8 @@ use Rattle.lego_reduce.specs.declared.frames.Frame.{Frame}
 use Rattle.lego_reduce.specs.declared.frames.Frame.TheVariants.{Argument, First, Second}
 use Rattle.lego_reduce.specs.declared.head_form.Turn.{Turn}
 use Rattle.lego_reduce.specs.declared.head_form.Turn.TheVariants.{Stepped, Stopped}
-use Rattle.lego_reduce.specs.Faults.{of_term}
-use Rattle.lego_reduce.specs.Frames.{plug, plug_one, contract_one, Rebuilt, Contracted, Turns}
+use Rattle.lego_reduce.specs.private.Faults.{of_term}
+use Rattle.lego_reduce.specs.private.Frames.{plug, plug_one, contract_one, Rebuilt, Contracted, Turns}
 use Rattle.lego_reduce.proofs.LargeLemmas.{first_over-large, large_whole}
 use Rattle.lego_reduce.proofs.FrameLemmas.{steps_in, redex_steps, none_around, too_large_in, plug-split}
 

@@ -11,7 +11,7 @@ use Rattle.lego_term.specs.declared.level.Level.{Level}
 use Rattle.lego_reduce.specs.declared.fault.ReduceFault.{ReduceFault}
 use Rattle.lego_reduce.specs.declared.fault.ReduceFault.TheVariants.{Budget, TooLarge, Memory}
 use Rattle.lego_reduce.specs.Reduction.{Reduces}
-use Rattle.lego_reduce.specs.Nesting.{NormalBefore, Arrives, Goes}
+use Rattle.lego_reduce.specs.private.Nesting.{NormalBefore, Arrives, Goes}
 use Rattle.lego_reduce.proofs.SequenceLemmas.{after-step}
 use Rattle.lego_reduce.proofs.StepLemmas.{from_or_else, from_map}
 use Rattle.lego_reduce.proofs.ContextLemmas.{Around, Passes, after_around, part_fault}

@@ -1,4 +1,2 @@
-pub mod Faults
-pub mod Frames
 pub mod Reduction
-pub mod Nesting
+pub mod private

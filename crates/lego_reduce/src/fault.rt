@@ -1,5 +1,5 @@
 ghost use Rattle.std.specs.Prelude.{◌≡◌};
-ghost use Rattle.lego_reduce.specs.Faults.{of_term};
+ghost use Rattle.lego_reduce.specs.private.Faults.{of_term};
 ghost use Rattle.lego_reduce.specs.declared.fault.ReduceFault.TheVariants.{Memory};
 
 use lego_term::TermFault;

@@ -1,7 +1,7 @@
 //! What stands around the head of a term, as a list.
 ghost use Rattle.std.specs.Prelude.{◌≡◌, IfOk};
 ghost use Rattle.lego_term.specs.Made.{Makes};
-ghost use Rattle.lego_reduce.specs.Frames.{plug, plug_one, IsHead, Rebuilt};
+ghost use Rattle.lego_reduce.specs.private.Frames.{plug, plug_one, IsHead, Rebuilt};
 
 use lego_term::{Mark, Node, Term, TermFault, app, fst, snd};
 use smallvec::SmallVec;

@@ -3,7 +3,7 @@ ghost use Rattle.std.specs.Prelude.{◌≡◌, ◌+◌, ◌^◌, ◌<◌, ◌≤
 ghost use Rattle.lego_term.specs.Trees.{loose, depth};
 ghost use Rattle.lego_term.specs.Sequences.{head_step};
 ghost use Rattle.lego_term.specs.BodyMap.{bodies_in, AreClosed};
-ghost use Rattle.lego_reduce.specs.Frames.{plug, plug_one, contract_one, IsHead, Contracted, Turns, StaysWithin};
+ghost use Rattle.lego_reduce.specs.private.Frames.{plug, plug_one, contract_one, IsHead, Contracted, Turns, StaysWithin};
 ghost use Rattle.lego_reduce.specs.Reduction.{Reduces};
 
 use crate::fault::ReduceFault;

@@ -7,7 +7,7 @@ ghost use Rattle.lego_term.specs.Made.{Makes};
 ghost use Rattle.lego_term.specs.Sequences.{head_step, normal_step};
 ghost use Rattle.lego_term.specs.BodyMap.{bodies_in, AreClosed};
 ghost use Rattle.lego_reduce.specs.Reduction.{Reduces};
-ghost use Rattle.lego_reduce.specs.Nesting.{Goes, NormalBefore};
+ghost use Rattle.lego_reduce.specs.private.Nesting.{Goes, NormalBefore};
 
 use crate::fault::ReduceFault;
 use crate::head_form::{Reduced, head_within};

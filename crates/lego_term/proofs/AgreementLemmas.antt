@@ -4,7 +4,7 @@ use Rattle.std.specs.Cmp.Derive.{both_true}
 use Rattle.std.proofs.lemmas.Bool.{false≢true}
 use Rattle.std.proofs.lemmas.Bool.Decides.{nat_tests}
 use Rattle.lego_term.specs.Trees.{Core, Var, Const, Prop, Univ, Pi, Lam, App, Sigma, Pair, Fst, Snd, Let, map_tree, Equal, EqualButLevels}
-use Rattle.lego_term.specs.Agreement.{agrees, same_option, same_mark, same_binder, same_level}
+use Rattle.lego_term.specs.private.Agreement.{agrees, same_option, same_mark, same_binder, same_level}
 use Rattle.lego_term.specs.declared.binder.Binder.{Binder}
 use Rattle.lego_term.specs.declared.binder.Mark.{Mark}
 use Rattle.lego_term.specs.declared.binder.Mark.TheVariants.{Plain, Implicit}

@@ -8,7 +8,7 @@ use Rattle.std.specs.Map.{lookup}
 use Rattle.std.proofs.lemmas.Bool.Decides.{nat_tests}
 use Rattle.std.proofs.Common.{length-drop}
 use Rattle.lego_term.specs.Trees.{Core, Var, Const, Prop, Univ, Pi, Lam, App, Sigma, Pair, Fst, Snd, Let, size, depth, close_over, listed_variable, replace_constants}
-use Rattle.lego_term.specs.Listed.{HasVariables}
+use Rattle.lego_term.specs.private.Listed.{HasVariables}
 use Rattle.lego_term.specs.Made.{Makes, Fits, first_over}
 use Rattle.std.specs.FinMap as map
 use Rattle.lego_term.specs.BodyMap.{BodyMap, bodies_in}

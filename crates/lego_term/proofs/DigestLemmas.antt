@@ -4,7 +4,7 @@ use Rattle.std.proofs.lemmas.Nat.{mul-mod}
 use Rattle.std.proofs.lemmas.Nat.Gcd.{dvd_of_mod-eq-zero}
 use Rattle.std.proofs.Math.Nat.{add-mod, mul-mod_left, mod-mod_of_dvd}
 use Rattle.lego_term.specs.Trees.{Core, Tree, Var, Const, Prop, Univ, Pi, Lam, App, Sigma, Pair, Fst, Snd, Let, map_tree, shape, Equal, EqualButLevels}
-use Rattle.lego_term.specs.Digest.{plus, times, twisted, mixed, level_digest, lower_half, digest_by, digest}
+use Rattle.lego_term.specs.private.Digest.{plus, times, twisted, mixed, level_digest, lower_half, digest_by, digest}
 use Rattle.lego_term.specs.declared.level.Level.{Level}
 
 -- names, marks and levels that are replaced change a digest by what the levels count as

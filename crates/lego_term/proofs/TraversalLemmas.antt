@@ -1,7 +1,7 @@
 -- What a tree with replaced leaves keeps, whatever is put for them.
 use Rattle.std.proofs.Common.{◌≡◌, ℕ, suc, pred, max, ◌+◌, ◌≤◌, ◌<◌, refl, ap, ◌∙◌, arith}
 use Rattle.lego_term.specs.Trees.{Tree, Core, Var, Const, Prop, Univ, Pi, Lam, App, Sigma, Pair, Fst, Snd, Let, size, depth, loose, map_leaves}
-use Rattle.lego_term.specs.ConstantBound.{constant_bound}
+use Rattle.lego_term.specs.private.ConstantBound.{constant_bound}
 use Rattle.lego_term.specs.Weight.{Counting, bound, count}
 
 -- a tree stays as it is where its leaves do: `Stays s n` says that variables below n stay

@@ -6,15 +6,8 @@ pub mod Sequences
 pub mod Parts
 pub mod Numbered
 pub mod Weight
-pub mod TreeCode
-pub mod ConstantBound
-pub mod Digest
-pub mod Form
-pub mod TermFalls
 pub mod Made
 pub mod Node
 pub mod BodyMap
-pub mod Agreement
-pub mod Listed
 pub mod formers
 pub mod private

@@ -3,7 +3,7 @@ ghost use Rattle.std.specs.Prelude.{◌≡◌, OnOk, OnErr};
 ghost use Rattle.std.specs.Option.{option_copied};
 ghost use Rattle.std.specs.Ordering.{nat_cmp};
 ghost use Rattle.std.specs.FinMap as map;
-ghost use Rattle.lego_term.specs.ConstantBound.{NoneBelow};
+ghost use Rattle.lego_term.specs.private.ConstantBound.{NoneBelow};
 
 use crate::term::Term;
 use std::alloc::{AllocError, Global};
@@ -23,7 +23,7 @@ impl Model for Bodies {
     ghost use Rattle.std.specs.FinMap as map;
     ghost use Rattle.std.specs.Coded.{coded_ℕ};
     ghost use Rattle.lego_term.specs.Trees.{Core};
-    ghost use Rattle.lego_term.specs.TreeCode.{tree_code};
+    ghost use Rattle.lego_term.specs.private.TreeCode.{tree_code};
 
     ghost Value = { map.FinMap nat_cmp Core };
 
@@ -32,7 +32,7 @@ impl Model for Bodies {
     ghost view = { λ b. map.from_entries b.terms.entries };
 
     ghost use Rattle.std.specs.BTreeMap.{get};
-    ghost use Rattle.lego_term.specs.ConstantBound.{NoneBelow};
+    ghost use Rattle.lego_term.specs.private.ConstantBound.{NoneBelow};
 
     ghost invariant = { λ b. NoneBelow b.least (get nat_cmp b.terms) };
 }

@@ -4,8 +4,8 @@ ghost use Rattle.std.specs.Prelude.{◌≡◌, ◌+◌, ◌^◌, ◌<◌, ◌≤
 ghost use Rattle.lego_term.specs.Trees.{depth, loose, mentions as is_mentioned, replace_constants, close_over as closed_over, listed_variable};
 ghost use Rattle.lego_term.specs.Made.{Rebuilds};
 ghost use Rattle.lego_term.specs.BodyMap.{bodies_in};
-ghost use Rattle.lego_term.specs.Listed.{HasVariables};
-ghost use Rattle.lego_term.specs.ConstantBound.{NoneBelow};
+ghost use Rattle.lego_term.specs.private.Listed.{HasVariables};
+ghost use Rattle.lego_term.specs.private.ConstantBound.{NoneBelow};
 ghost use Rattle.lego_term.specs.declared.fault.TermFault.TheVariants.{Memory};
 
 use crate::bodies::Bodies;

@@ -1,6 +1,6 @@
 //! Digests of terms, by which most terms that differ are told apart at once.
 ghost use Rattle.std.specs.Prelude.{◌≡◌};
-ghost use Rattle.lego_term.specs.Digest.{mixed, base_number as number_of_base, level_digest as digest_of_level, lower_half as lower_half_of};
+ghost use Rattle.lego_term.specs.private.Digest.{mixed, base_number as number_of_base, level_digest as digest_of_level, lower_half as lower_half_of};
 
 use crate::level::Level;
 

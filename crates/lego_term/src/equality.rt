@@ -1,7 +1,7 @@
 //! Equality of terms.
 ghost use Rattle.std.specs.Prelude.{◌≡◌, ◌↔◌, IsTrue};
 ghost use Rattle.lego_term.specs.Trees.{Equal, EqualButLevels};
-ghost use Rattle.lego_term.specs.Agreement.{agrees, same_binder as same_binders, same_mark as same_marks, same_level as same_levels};
+ghost use Rattle.lego_term.specs.private.Agreement.{agrees, same_binder as same_binders, same_mark as same_marks, same_level as same_levels};
 
 use crate::binder::{Binder, Mark};
 use crate::digest::lower_half;

@@ -1,8 +1,8 @@
 //! The numbers that a term keeps of its tree.
 ghost use Rattle.std.specs.Prelude.{◌≡◌, ◌+◌, ◌^◌, ◌≤◌, suc, pred, max};
 ghost use Rattle.lego_term.specs.Trees.{size as size_of, depth as depth_of, loose as loose_of};
-ghost use Rattle.lego_term.specs.ConstantBound.{constant_bound};
-ghost use Rattle.lego_term.specs.Digest.{mixed, digest as digest_of};
+ghost use Rattle.lego_term.specs.private.ConstantBound.{constant_bound};
+ghost use Rattle.lego_term.specs.private.Digest.{mixed, digest as digest_of};
 
 use crate::digest::mix;
 use crate::term::Term;

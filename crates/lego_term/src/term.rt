@@ -2,9 +2,9 @@
 ghost use Rattle.std.specs.Prelude.{◌≡◌, ◌≤◌, IfOk};
 ghost use Rattle.lego_term.specs.Trees.{size, depth, loose};
 ghost use Rattle.lego_term.specs.Made.{Makes, Fits};
-ghost use Rattle.lego_term.specs.ConstantBound.{constant_bound};
-ghost use Rattle.lego_term.specs.Digest.{digest as digest_of};
-ghost use Rattle.lego_term.specs.Form.{tree_of};
+ghost use Rattle.lego_term.specs.private.ConstantBound.{constant_bound};
+ghost use Rattle.lego_term.specs.private.Digest.{digest as digest_of};
+ghost use Rattle.lego_term.specs.private.Form.{tree_of};
 ghost use Rattle.lego_term.specs.Node.{shown};
 
 use crate::binder::{Binder, Mark};
@@ -59,13 +59,13 @@ pub(crate) enum Form {
 
 impl Model for Term {
     ghost use Rattle.lego_term.specs.Trees.{Core, size as nodes_of};
-    ghost use Rattle.lego_term.specs.TreeCode.{tree_code};
+    ghost use Rattle.lego_term.specs.private.TreeCode.{tree_code};
 
     ghost Value = { Core };
 
     ghost coded = { tree_code };
 
-    ghost use Rattle.lego_term.specs.Form.{tree_of, HasNumbers};
+    ghost use Rattle.lego_term.specs.private.Form.{tree_of, HasNumbers};
 
     ghost view = { λ t. tree_of t.root.value.form };
 
@@ -73,7 +73,7 @@ impl Model for Term {
 
     ghost size = { nodes_of };
 
-    ghost use Rattle.lego_term.specs.TermFalls.{deep_le-size};
+    ghost use Rattle.lego_term.specs.private.TermFalls.{deep_le-size};
 
     ghost size_decreases = { λ a h. deep_le-size a.root.value.form };
 }

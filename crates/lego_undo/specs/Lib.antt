@@ -1,4 +1,3 @@
 pub mod Histories
 pub mod Changes
-pub mod ChangeCode
 pub mod private

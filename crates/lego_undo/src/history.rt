@@ -23,7 +23,7 @@ impl Model for History {
     ghost use Rattle.std.specs.Prelude.{List};
     ghost use Rattle.lego_undo.specs.declared.change.Change.{Change};
     ghost use Rattle.std.specs.Coded.{coded_list};
-    ghost use Rattle.lego_undo.specs.ChangeCode.{change_code};
+    ghost use Rattle.lego_undo.specs.private.ChangeCode.{change_code};
 
     ghost Value = { List Change };
 

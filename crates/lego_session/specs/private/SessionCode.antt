@@ -1,7 +1,7 @@
 -- A code for sessions, by which a proof tells them apart.
 use Rattle.std.specs.Prelude.{ℕ, List, refl}
 use Rattle.std.specs.Coded.{Coded, code_by, coded_list, coded_ℕ, coded×}
-use Rattle.lego_kernel.specs.EntryCode.{entry_code}
+use Rattle.lego_kernel.specs.private.EntryCode.{entry_code}
 use Rattle.lego_kernel.specs.declared.entry.Entry.{Entry as Item}
 use Rattle.lego_undo.specs.Histories.{Held}
 use Rattle.lego_session.specs.Sessions.{Session}

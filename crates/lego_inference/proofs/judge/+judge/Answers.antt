@@ -6,7 +6,7 @@ use Rattle.lego_laws.specs.Places.{AType, AFunction, APair, Stated, Site, behind
 use Rattle.lego_laws.specs.RuleTypes.{nodes}
 use Rattle.lego_laws.specs.Ranges.{levels_bound, sort_term}
 use Rattle.lego_term.proofs.LooseLemmas.{loose-instantiate}
-use Rattle.lego_laws.proofs.SolvedCores.{heights, positive}
+use Rattle.lego_laws.proofs.lemmas.principal.SolvedCores.{heights, positive}
 use Rattle.lego_inference.specs.Entries.{laws_entries}
 use Rattle.lego_inference.specs.Locals.{site_of, types_of, binders_of, NamesEntries}
 use Rattle.lego_inference.specs.declared.locals.Local.{Local}

@@ -1,5 +1,5 @@
 use Rattle.lego_laws.proofs.comparison.difference_excludes_below.Goals as goal
-use Rattle.lego_laws.proofs.Differing.{difference_excludes_below}
+use Rattle.lego_laws.proofs.lemmas.comparison.Differing.{difference_excludes_below}
 
 pub returns : goal.returns
 returns c = difference_excludes_below

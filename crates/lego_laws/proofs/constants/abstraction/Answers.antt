@@ -1,5 +1,5 @@
 use Rattle.lego_laws.proofs.constants.abstraction.Goals as goal
-use Rattle.lego_laws.proofs.Abstracted.{abstraction}
+use Rattle.lego_laws.proofs.lemmas.constants.Abstracted.{abstraction}
 
 pub returns : goal.returns
 returns c = abstraction

@@ -1,5 +1,5 @@
 use Rattle.lego_laws.proofs.constants.conversion_needs_no_local.Goals as goal
-use Rattle.lego_laws.proofs.NoLocals.{conversion_needs_no_local}
+use Rattle.lego_laws.proofs.lemmas.constants.NoLocals.{conversion_needs_no_local}
 
 pub returns : goal.returns
 returns c = conversion_needs_no_local

@@ -1,5 +1,5 @@
 use Rattle.lego_laws.proofs.examples.constants_dont_count.Goals as goal
-use Rattle.lego_laws.proofs.ExampleProofs.{constants_dont_count}
+use Rattle.lego_laws.proofs.lemmas.examples.ExampleProofs.{constants_dont_count}
 
 pub returns : goal.returns
 returns c = constants_dont_count

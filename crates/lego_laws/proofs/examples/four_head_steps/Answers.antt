@@ -1,5 +1,5 @@
 use Rattle.lego_laws.proofs.examples.four_head_steps.Goals as goal
-use Rattle.lego_laws.proofs.ExampleProofs.{four_head_steps}
+use Rattle.lego_laws.proofs.lemmas.examples.ExampleProofs.{four_head_steps}
 
 pub returns : goal.returns
 returns c = four_head_steps

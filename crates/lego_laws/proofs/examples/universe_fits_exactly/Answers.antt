@@ -1,5 +1,5 @@
 use Rattle.lego_laws.proofs.examples.universe_fits_exactly.Goals as goal
-use Rattle.lego_laws.proofs.ExampleProofs.{universe_fits_exactly}
+use Rattle.lego_laws.proofs.lemmas.examples.ExampleProofs.{universe_fits_exactly}
 
 pub returns : goal.returns
 returns c = universe_fits_exactly

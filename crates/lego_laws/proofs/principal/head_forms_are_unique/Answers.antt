@@ -1,5 +1,5 @@
 use Rattle.lego_laws.proofs.principal.head_forms_are_unique.Goals as goal
-use Rattle.lego_laws.proofs.RuleTypesUnique.{head_forms_are_unique}
+use Rattle.lego_laws.proofs.lemmas.principal.RuleTypesUnique.{head_forms_are_unique}
 
 pub returns : goal.returns
 returns c = head_forms_are_unique

@@ -1,5 +1,5 @@
 use Rattle.lego_laws.proofs.principal.small_typings_have_small_solutions.Goals as goal
-use Rattle.lego_laws.proofs.PrincipalLaws.{small_typings_have_small_solutions}
+use Rattle.lego_laws.proofs.lemmas.principal.PrincipalLaws.{small_typings_have_small_solutions}
 
 pub returns : goal.returns
 returns c = small_typings_have_small_solutions

@@ -1,5 +1,5 @@
 use Rattle.lego_laws.proofs.reduction.confluence.Goals as goal
-use Rattle.lego_laws.proofs.CommonReducts.{confluence}
+use Rattle.lego_laws.proofs.lemmas.reduction.CommonReducts.{confluence}
 
 pub returns : goal.returns
 returns c = confluence

@@ -1,5 +1,5 @@
 use Rattle.lego_laws.proofs.reduction.pi_inverts.Goals as goal
-use Rattle.lego_laws.proofs.Below.{products_invert}
+use Rattle.lego_laws.proofs.lemmas.reduction.Below.{products_invert}
 
 pub returns : goal.returns
 returns c = products_invert

@@ -1,5 +1,5 @@
 use Rattle.lego_laws.proofs.typing.generalisation.Goals as goal
-use Rattle.lego_laws.proofs.Generalised.{generalisation}
+use Rattle.lego_laws.proofs.lemmas.typing.Generalised.{generalisation}
 
 pub returns : goal.returns
 returns c = generalisation

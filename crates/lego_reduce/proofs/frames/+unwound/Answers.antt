@@ -2,7 +2,7 @@ use Rattle.std.proofs.Common.{◌≡◌, ap, ◌∙◌}
 use Rattle.std.proofs.lemmas.Result.{IfOk-weaker}
 use Rattle.lego_term.specs.Trees.{Core, App}
 use Rattle.lego_reduce.specs.declared.frames.Frame.TheVariants.{Argument, First, Second}
-use Rattle.lego_reduce.specs.Frames.{plug}
+use Rattle.lego_reduce.specs.private.Frames.{plug}
 use Rattle.lego_reduce.proofs.FrameLemmas.{plug-push}
 use Rattle.lego_reduce.proofs.frames.+unwound.Goals as goal
 

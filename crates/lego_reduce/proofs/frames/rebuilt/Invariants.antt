@@ -1,5 +1,5 @@
 use Rattle.std.proofs.Common.{◌≡◌, ◌-◌, length, drop}
-use Rattle.lego_reduce.specs.Frames.{plug}
+use Rattle.lego_reduce.specs.private.Frames.{plug}
 use Rattle.lego_reduce.proofs.frames.rebuilt.Given as goal
 
 abbrev pub invariant-loop-index : goal.invariant-loop-index

@@ -4,7 +4,7 @@ use Rattle.lego_term.specs.Trees.{Core}
 use Rattle.lego_term.specs.Sequences.{head_step}
 use Rattle.lego_term.specs.BodyMap.{bodies_in}
 use Rattle.lego_reduce.specs.declared.head_form.Turn.{Turn}
-use Rattle.lego_reduce.specs.Frames.{plug, StaysWithin, Turns}
+use Rattle.lego_reduce.specs.private.Frames.{plug, StaysWithin, Turns}
 use Rattle.lego_reduce.proofs.HeadLemmas.{Reached, reached_more, reached_fault, reached_deep}
 use Rattle.lego_reduce.proofs.head_form.head_within.Goals as goal
 

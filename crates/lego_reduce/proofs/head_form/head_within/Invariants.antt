@@ -1,5 +1,5 @@
 use Rattle.std.proofs.Common.{◌-◌}
-use Rattle.lego_reduce.specs.Frames.{plug, IsHead}
+use Rattle.lego_reduce.specs.private.Frames.{plug, IsHead}
 use Rattle.lego_reduce.proofs.HeadLemmas.{Reached}
 use Rattle.lego_reduce.proofs.head_form.head_within.Given as goal
 

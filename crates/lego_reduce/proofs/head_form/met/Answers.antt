@@ -1,6 +1,6 @@
 use Rattle.std.proofs.lemmas.Result.{err_from_is_err_and}
 use Rattle.lego_term.specs.Trees.{instantiate}
-use Rattle.lego_reduce.specs.Frames.{plug_one, contract_one}
+use Rattle.lego_reduce.specs.private.Frames.{plug_one, contract_one}
 use Rattle.lego_reduce.proofs.MachineLemmas.{beta_redex, first_redex, second_redex, step_fault, whole_fault}
 use Rattle.lego_reduce.proofs.head_form.met.Goals as goal
 

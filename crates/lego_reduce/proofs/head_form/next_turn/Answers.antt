@@ -3,7 +3,7 @@ use Rattle.std.proofs.lemmas.Result.{err_from_is_err_and}
 use Rattle.lego_term.specs.Trees.{Core, loose}
 use Rattle.lego_term.specs.Sequences.{head_step}
 use Rattle.lego_term.specs.BodyMap.{bodies_in}
-use Rattle.lego_reduce.specs.Frames.{plug, plug_one, Contracted, Turns}
+use Rattle.lego_reduce.specs.private.Frames.{plug, plug_one, Contracted, Turns}
 use Rattle.lego_reduce.proofs.FrameLemmas.{plug-push, loose-plug, steps_in}
 use Rattle.lego_reduce.proofs.MachineLemmas.{turns_around, contracted_around}
 use Rattle.lego_reduce.proofs.head_form.next_turn.Goals as goal

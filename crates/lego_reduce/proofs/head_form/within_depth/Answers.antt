@@ -1,6 +1,6 @@
 use Rattle.std.proofs.Common.{◌≡◌, ap, arith}
 use Rattle.lego_term.specs.Trees.{Core, depth}
-use Rattle.lego_reduce.specs.Frames.{plug}
+use Rattle.lego_reduce.specs.private.Frames.{plug}
 use Rattle.lego_reduce.proofs.FrameLemmas.{depth-plug}
 use Rattle.lego_reduce.proofs.head_form.within_depth.Goals as goal
 

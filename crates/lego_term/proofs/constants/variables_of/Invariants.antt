@@ -1,5 +1,5 @@
 use Rattle.std.proofs.Common.{◌-◌, length, drop}
-use Rattle.lego_term.specs.Listed.{HasVariables}
+use Rattle.lego_term.specs.private.Listed.{HasVariables}
 use Rattle.lego_term.proofs.constants.variables_of.Given as goal
 
 abbrev pub invariant-loop-index : goal.invariant-loop-index

@@ -1,5 +1,5 @@
 use Rattle.std.proofs.Common.{refl}
-use Rattle.lego_term.specs.Digest.{level_digest}
+use Rattle.lego_term.specs.private.Digest.{level_digest}
 use Rattle.lego_term.proofs.digest.level_digest.Goals as goal
 
 pub returns : goal.returns

@@ -1,6 +1,6 @@
 use Rattle.std.proofs.Common.{ap, arith}
 use Rattle.std.proofs.lemmas.Bool.{false≢true}
-use Rattle.lego_term.specs.Digest.{digest}
+use Rattle.lego_term.specs.private.Digest.{digest}
 use Rattle.lego_term.proofs.AgreementLemmas.{identical_decides}
 use Rattle.lego_term.proofs.equality.identical.Goals as goal
 

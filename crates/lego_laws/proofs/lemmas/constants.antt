@@ -1,0 +1,19 @@
+-- Lemmas for the laws of constants.
+pub mod Translated
+pub mod Expanded
+pub mod ExpansionLaws
+pub mod Strengthened
+pub mod StrengtheningLaws
+pub mod Replaced
+pub mod ReplacementLaws
+pub mod Closing
+pub mod Reordered
+pub mod ReducedLists
+pub mod Listed
+pub mod Abstracted
+pub mod KnownConstants
+pub mod Unlocal
+pub mod PureLists
+pub mod Unreached
+pub mod NoLocals
+pub mod GivenBodies

@@ -1,0 +1,22 @@
+-- Lemmas for the laws of principal types.
+pub mod Highest
+pub mod Greatest
+pub mod HeldVariables
+pub mod EntriesAt
+pub mod HeldWithin
+pub mod PrincipalLaws
+pub mod Bounding
+pub mod AtZero
+pub mod Excluding
+pub mod RuleTypesUnique
+pub mod RuleTypesRenamed
+pub mod Scoped
+pub mod RulePrincipal
+pub mod Shaped
+pub mod LevelsListed
+pub mod Nodes
+pub mod ShapedParts
+pub mod SolvedCores
+pub mod RenamedEntries
+pub mod Tasks
+pub mod ReachedShapes
