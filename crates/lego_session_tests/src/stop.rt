@@ -3,7 +3,7 @@ ghost use Rattle.std.specs.Prelude.{◌<◌};
 
 use lego_base::{MemSink, MemSource};
 use lego_session::{Status, run};
-use std::alloc::Global;
+use std::alloc::{AllocError, Global};
 use std::test::*;
 
 /// What a run wrote, how it ended, and how many bytes it left.
@@ -119,6 +119,32 @@ fn a_failed_write_leaves_what_stands_behind_its_piece(rt: HostRuntime) -> Result
     assert_eq!(rt; status, Status::WriteFault);
     assert_eq!(rt; out.taken(), b"".as_slice());
     assert_eq!(rt; source.left().len(), 5_913);
+    Ok(())
+}
+
+/// The script, and blanks behind it up to so many bytes.
+fn filled(alloc: Global, script: &[u8], bytes: usize) -> Result<Vec<u8>, AllocError> {
+    let mut filled = Vec::from_slice(alloc, script)?;
+    for _ in script.len()..bytes {
+        filled.push(b' ')?;
+    }
+    Ok(filled)
+}
+
+#[test]
+fn stop_comes_before_a_script_that_is_too_long(rt: HostRuntime) -> Result<(), Fail> {
+    let alloc = rt.alloc();
+    let script = filled(alloc, b"[A:Prop];;", 16_777_217)?;
+    let got = ran(alloc, &["--stop"], &script, 4096)?;
+    assert_eq!(rt; got.status, Status::Refused);
+    assert_eq!(rt; got.left, 16_777_217 - 4096);
+    let got = ran(alloc, &[], &script, 4096)?;
+    assert_eq!(rt; got.status, Status::TooLong);
+    assert_eq!(rt;
+        got.output.as_slice(),
+        b"A : Prop\nrefused 1:10 5 Unexpected ;\n".as_slice()
+    );
+    assert_eq!(rt; got.left, 0);
     Ok(())
 }
 
