@@ -7,12 +7,16 @@ use Rattle.std.proofs.lemmas.List.{drop_more, drop_all}
 use Rattle.std.specs.Map.{lookup}
 use Rattle.std.proofs.lemmas.Bool.Decides.{nat_tests}
 use Rattle.std.proofs.Common.{length-drop}
-use Rattle.lego_term.specs.Trees.{Core, Var, Const, Prop, Univ, Pi, Lam, App, Sigma, Pair, Fst, Snd, Let, size, depth, close_over, listed_variable, replace_constants}
+use Rattle.lego_term.specs.Trees.{Core, Var, Const, Prop, Univ, Pi, Lam, App, Sigma, Pair, Fst, Snd, Let, size, depth, close_over, listed_variable, Bodies, replace_constants, map_leaves}
 use Rattle.lego_term.specs.private.Listed.{HasVariables}
 use Rattle.lego_term.specs.Made.{Makes, Fits, first_over}
 use Rattle.std.specs.FinMap as map
 use Rattle.lego_term.specs.BodyMap.{BodyMap, bodies_in}
 use Rattle.lego_term.proofs.OverLemmas.{first_over-fits}
+use Rattle.lego_term.proofs.TraversalLemmas.{state_unused}
+use Rattle.lego_term.specs.declared.binder.Binder.{Binder}
+use Rattle.lego_term.specs.declared.binder.Mark.{Mark}
+use Rattle.lego_term.specs.declared.level.Level.{Level}
 use Rattle.lego_term.specs.declared.fault.TermFault.{TermFault}
 use Rattle.lego_term.specs.declared.fault.TermFault.TheVariants.{TooLarge, Memory}
 
@@ -23,7 +27,7 @@ size_of : (o : Option ℕ) (d k : ℕ) → size (variable_or o d k) ≡ 1
 size_of None d k = refl
 size_of (Some i) d k = refl
 
-size-close : (ns : List ℕ) (under : ℕ) (t : Core) → size (close_over ns under t) ≡ size t
+pub size-close : (ns : List ℕ) (under : ℕ) (t : Core) → size (close_over ns under t) ≡ size t
 size-close ns under (Var i) = refl
 size-close ns under (Const k) = size_of (listed_variable ns k) under k
 size-close ns under Prop = refl
@@ -41,7 +45,7 @@ depth_of : (o : Option ℕ) (d k : ℕ) → depth (variable_or o d k) ≡ 1
 depth_of None d k = refl
 depth_of (Some i) d k = refl
 
-depth-close : (ns : List ℕ) (under : ℕ) (t : Core) → depth (close_over ns under t) ≡ depth t
+pub depth-close : (ns : List ℕ) (under : ℕ) (t : Core) → depth (close_over ns under t) ≡ depth t
 depth-close ns under (Var i) = refl
 depth-close ns under (Const k) = depth_of (listed_variable ns k) under k
 depth-close ns under Prop = refl
@@ -54,15 +58,6 @@ depth-close ns under (Pair x a b m n) = omega (arith, depth-close ns under a, de
 depth-close ns under (Fst m) = omega (arith, depth-close ns under m)
 depth-close ns under (Snd m) = omega (arith, depth-close ns under m)
 depth-close ns under (Let x m n) = omega (arith, depth-close ns under m, depth-close ns (suc under) n)
-
--- where the tree that is closed fits, making the closed one meets no limit
-pub close_err : (ns : List ℕ) (under : ℕ) (t u : Core) (r : Result Core TermFault) → u ≡ close_over ns under t → Fits t → Makes u r → IfErr r (λ fault. fault ≡ Memory)
-close_err ns under t u (Ok made) e f h = tt
-close_err ns under t u (Err Memory) e f h = refl
-close_err ns under t u (Err (TooLarge nodes levels)) e f h =
-    let s : size u ≡ size t = ap size e ∙ size-close ns under t in
-    let d : depth u ≡ depth t = ap depth e ∙ depth-close ns under t in
-    absurd (elim h.2 [ inl p ↦ omega arith | inr p ↦ omega arith ])
 
 pub listed_variable-less : (ns : List ℕ) (k i : ℕ) → listed_variable ns k ≡ Some i → i < length ns
 listed_variable-less [] k i e = absurd (cc)
@@ -100,6 +95,11 @@ listed_more ns i m n lt has h q =
     ∙ (ap (λ a. cond (nat_eq (get_or ns j 0) q) (Some a) (listed_variable (drop (j + 1) ns) q)) (sym count)
     ∙ (ap (λ l. listed_variable l q) (sym front)
     ∙ ap (λ a. listed_variable (drop a ns) q) (sym before)))))
+
+-- the binders above a constant change nothing of its body
+pub replace-under : (bodies : Bodies Binder Mark Level) (n : ℕ) (t : Core)
+    → map_leaves suc (λ n i. Var i) (λ n k. unwrap_or (bodies k) (Const k)) n t ≡ replace_constants bodies t
+replace-under bodies = state_unused (λ i. Var i) (λ k. unwrap_or (bodies k) (Const k))
 
 -- where a constant has a body, the body stands for it
 pub body_stands : (bodies : BodyMap) (k : ℕ) (b made : Core) → Some b ≡ map.get bodies k → made ≡ b → Fits b

@@ -50,12 +50,3 @@ lift-low from by (Pair x a b m n) h i = Pair x (lift-low from by a (omega arith)
 lift-low from by (Fst m) h i = Fst (lift-low from by m h i)
 lift-low from by (Snd m) h i = Snd (lift-low from by m h i)
 lift-low from by (Let x m n) h i = Let x (lift-low from by m (omega arith) i) (lift-low (suc from) by n (omega arith) i)
-
--- where the tree that is lifted fits, making the lifted one meets no limit
-pub lift_err : (from by : ℕ) (t u : Core) (r : Result Core TermFault) → u ≡ lift from by t → Fits t → Makes u r → IfErr r (λ fault. fault ≡ Memory)
-lift_err from by t u (Ok made) e f h = tt
-lift_err from by t u (Err Memory) e f h = refl
-lift_err from by t u (Err (TooLarge nodes levels)) e f h =
-    let s : size u ≡ size t = ap size e ∙ size-lift from by t in
-    let d : depth u ≡ depth t = ap depth e ∙ depth-lift from by t in
-    absurd (elim h.2 [ inl p ↦ omega arith | inr p ↦ omega arith ])

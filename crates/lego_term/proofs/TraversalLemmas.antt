@@ -29,6 +29,23 @@ module _ {S : Type 0} (under : S → S) (variable constant : S → ℕ → Core)
   leaves_stay s n (Let x p q) h l c = λ i.
       Let x (leaves_stay s n p h (omega arith) (omega arith) i) (leaves_stay (under s) (suc n) q (below s n h) (omega arith) (omega arith) i)
 
+-- a state that no leaf depends on may as well be nothing
+pub state_unused : (variable constant : ℕ → Core) (n : ℕ) (t : Core)
+    → map_leaves suc (λ s. variable) (λ s. constant) n t ≡ map_leaves {S = Unit {0}} (λ s. s) (λ s. variable) (λ s. constant) tt t
+state_unused variable constant n (Var i) = refl
+state_unused variable constant n (Const k) = refl
+state_unused variable constant n Prop = refl
+state_unused variable constant n (Univ l) = refl
+state_unused variable constant n (Pi x a b) = λ i. Pi x (state_unused variable constant n a i) (state_unused variable constant (suc n) b i)
+state_unused variable constant n (Lam x a b) = λ i. Lam x (state_unused variable constant n a i) (state_unused variable constant (suc n) b i)
+state_unused variable constant n (App k p q) = λ i. App k (state_unused variable constant n p i) (state_unused variable constant n q i)
+state_unused variable constant n (Sigma x a b) = λ i. Sigma x (state_unused variable constant n a i) (state_unused variable constant (suc n) b i)
+state_unused variable constant n (Pair x a b p q) = λ i.
+    Pair x (state_unused variable constant n a i) (state_unused variable constant (suc n) b i) (state_unused variable constant n p i) (state_unused variable constant n q i)
+state_unused variable constant n (Fst p) = ap Fst (state_unused variable constant n p)
+state_unused variable constant n (Snd p) = ap Snd (state_unused variable constant n p)
+state_unused variable constant n (Let x p q) = λ i. Let x (state_unused variable constant n p i) (state_unused variable constant (suc n) q i)
+
 -- size and depth stay where each leaf goes to a leaf
 module _ {S B M L : Type 0} (under : S → S) (variable constant : S → ℕ → Tree B M L)
     (variable_size : (s : S) (i : ℕ) → size (variable s i) ≡ 1) (constant_size : (s : S) (k : ℕ) → size (constant s k) ≡ 1) where

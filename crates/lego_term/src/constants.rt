@@ -1,7 +1,7 @@
 //! Constants in terms: whether one is mentioned, bodies put for them, and variables put
 //! for them.
-ghost use Rattle.std.specs.Prelude.{◌≡◌, ◌+◌, ◌^◌, ◌<◌, ◌≤◌, length, IfOk, IfErr};
-ghost use Rattle.lego_term.specs.Trees.{depth, loose, mentions as is_mentioned, replace_constants, close_over as closed_over, listed_variable};
+ghost use Rattle.std.specs.Prelude.{◌≡◌, ◌+◌, ◌^◌, ◌<◌, ◌≤◌, ◌-◌, length, IfOk, IfErr, nat_lt, if◌then◌else◌, unwrap_or, option_map};
+ghost use Rattle.lego_term.specs.Trees.{Var, Const, depth, loose, mentions as is_mentioned, replace_constants, close_over as closed_over, listed_variable};
 ghost use Rattle.lego_term.specs.Made.{Rebuilds};
 ghost use Rattle.lego_term.specs.BodyMap.{bodies_in};
 ghost use Rattle.lego_term.specs.private.Listed.{HasVariables};
@@ -10,8 +10,9 @@ ghost use Rattle.lego_term.specs.declared.fault.TermFault.TheVariants.{Memory};
 
 use crate::bodies::Bodies;
 use crate::fault::TermFault;
-use crate::makers::{app, fst, lam, local, pair, pi, sigma, snd, variable};
+use crate::makers::variable;
 use crate::term::{Node, Term};
+use crate::traversal::{Leaves, rebuild};
 use std::alloc::{AllocError, Global};
 use std::collections::BTreeMap;
 
@@ -42,54 +43,39 @@ pub fn mentions(t: &Term, number: u32) -> bool
 pub fn replace_consts(alloc: Global, t: &Term, bodies: &Bodies) -> Result<Term, TermFault>
     ensures { Rebuilds (replace_constants (bodies_in bodies.now) t.now) result }
 {
-    if t.constants() <= bodies.least() {
-        return Ok(t.share()?);
+    let _loose = t.loose();
+    rebuild(alloc, &Replaced { bodies }, t, 0)
+}
+
+/// Each constant is its body, where it has one.
+#[derive(Drop)]
+struct Replaced<'a> {
+    bodies: &'a Bodies,
+}
+
+impl Leaves for Replaced<'_> {
+    ghost put_variable = { λ s n i. Var i };
+
+    ghost put_constant = { λ s n k. unwrap_or (bodies_in s.bodies.now k) (Const k) };
+
+    ghost is_ready = { λ s. Unit {0} };
+
+    ghost past_binders = { λ s. 0 };
+
+    ghost highest = { λ s. 2 ^ 32 + 2000 };
+
+    fn keeps(&self, t: &Term, _: u32) -> bool {
+        t.constants() <= self.bodies.least()
     }
-    match t.view() {
-        Node::Var(_) | Node::Prop | Node::Univ(_) => Ok(t.share()?),
-        Node::Const(number) => match bodies.get(number) {
+
+    fn variable(&self, _: Global, t: &Term, _: u32, _: u32) -> Result<Term, TermFault> {
+        Ok(t.share()?)
+    }
+
+    fn constant(&self, _: Global, t: &Term, number: u32, _: u32) -> Result<Term, TermFault> {
+        match self.bodies.get(number) {
             Some(body) => Ok(body.share()?),
             None => Ok(t.share()?),
-        },
-        Node::Pi(binder, domain, body) => {
-            let domain = replace_consts(alloc, domain, bodies)?;
-            let body = replace_consts(alloc, body, bodies)?;
-            pi(alloc, binder, &domain, &body)
-        }
-        Node::Lam(binder, domain, body) => {
-            let domain = replace_consts(alloc, domain, bodies)?;
-            let body = replace_consts(alloc, body, bodies)?;
-            lam(alloc, binder, &domain, &body)
-        }
-        Node::App(mark, function, argument) => {
-            let function = replace_consts(alloc, function, bodies)?;
-            let argument = replace_consts(alloc, argument, bodies)?;
-            app(alloc, mark, &function, &argument)
-        }
-        Node::Sigma(binder, first, second) => {
-            let first = replace_consts(alloc, first, bodies)?;
-            let second = replace_consts(alloc, second, bodies)?;
-            sigma(alloc, binder, &first, &second)
-        }
-        Node::Pair(binder, a, b, m, n) => {
-            let a = replace_consts(alloc, a, bodies)?;
-            let b = replace_consts(alloc, b, bodies)?;
-            let m = replace_consts(alloc, m, bodies)?;
-            let n = replace_consts(alloc, n, bodies)?;
-            pair(alloc, binder, &a, &b, &m, &n)
-        }
-        Node::Fst(of) => {
-            let of = replace_consts(alloc, of, bodies)?;
-            fst(alloc, &of)
-        }
-        Node::Snd(of) => {
-            let of = replace_consts(alloc, of, bodies)?;
-            snd(alloc, &of)
-        }
-        Node::Local(binder, value, body) => {
-            let value = replace_consts(alloc, value, bodies)?;
-            let body = replace_consts(alloc, body, bodies)?;
-            local(alloc, binder, &value, &body)
         }
     }
 }
@@ -101,9 +87,14 @@ pub fn close_over(alloc: Global, t: &Term, numbers: &[u32]) -> Result<Term, Term
     ensures ok { IfOk result (λ u. u ≡ closed_over numbers.now 0 t.now) }
     ensures err { IfErr result (λ fault. fault ≡ Memory) }
 {
-    let _depth = t.depth();
+    let _loose = (t.loose(), t.depth());
     let variables = variables_of(alloc, numbers)?;
-    close_within(alloc, t, numbers, &variables, least_of(numbers), 0)
+    let leaves = Closed {
+        numbers,
+        variables: &variables,
+        least: least_of(numbers),
+    };
+    rebuild(alloc, &leaves, t, 0)
 }
 
 /// A number below which no constant is listed.
@@ -132,77 +123,42 @@ fn variables_of(alloc: Global, numbers: &[u32]) -> Result<BTreeMap<u32, u32>, Al
     Ok(variables)
 }
 
-/// The same under `under` binders, where the listed constants' variables are given.
-fn close_within(
-    alloc: Global,
-    t: &Term,
-    numbers: &[u32],
-    variables: &BTreeMap<u32, u32>,
+/// Each listed constant is its variable, and each variable that no binder above it binds is raised.
+#[derive(Drop)]
+struct Closed<'a> {
+    numbers: &'a [u32],
+    variables: &'a BTreeMap<u32, u32>,
+    // no constant below it is listed
     least: u64,
-    under: u32,
-) -> Result<Term, TermFault>
-    requires room { loose t.now + depth t.now + length numbers.now < 2 ^ 31 }
-    requires binders { under + depth t.now + length numbers.now < 2 ^ 31 }
-    requires listed { HasVariables numbers.now variables.now }
-    requires none { NoneBelow least (listed_variable numbers.now) }
-    ensures ok { IfOk result (λ u. u ≡ closed_over numbers.now under t.now) }
-    ensures err { IfErr result (λ fault. fault ≡ Memory) }
-{
-    if t.loose() <= under && t.constants() <= least {
-        return Ok(t.share()?);
+}
+
+impl Leaves for Closed<'_> {
+    ghost put_variable = { λ s n i. Var (if nat_lt i n then i else i + length s.numbers.now) };
+
+    ghost put_constant = { λ s n k. unwrap_or (option_map (λ i. Var (i + n)) (listed_variable s.numbers.now k)) (Const k) };
+
+    ghost is_ready = { λ s. HasVariables s.numbers.now s.variables.now × NoneBelow s.least (listed_variable s.numbers.now) };
+
+    ghost past_binders = { λ s. length s.numbers.now };
+
+    ghost highest = { λ s. 2 ^ 32 - 1 - length s.numbers.now };
+
+    fn keeps(&self, t: &Term, under: u32) -> bool {
+        t.loose() <= under && t.constants() <= self.least
     }
-    match t.view() {
-        Node::Prop | Node::Univ(_) => Ok(t.share()?),
-        Node::Var(index) => {
-            if index < under {
-                Ok(t.share()?)
-            } else {
-                variable(alloc, index + numbers.len() as u32)
-            }
+
+    fn variable(&self, alloc: Global, t: &Term, index: u32, under: u32) -> Result<Term, TermFault> {
+        if index < under {
+            Ok(t.share()?)
+        } else {
+            variable(alloc, index + self.numbers.len() as u32)
         }
-        Node::Const(number) => match variables.get(&number) {
+    }
+
+    fn constant(&self, alloc: Global, t: &Term, number: u32, under: u32) -> Result<Term, TermFault> {
+        match self.variables.get(&number) {
             Some(index) => variable(alloc, *index + under),
             None => Ok(t.share()?),
-        },
-        Node::Pi(binder, domain, body) => {
-            let domain = close_within(alloc, domain, numbers, variables, least, under)?;
-            let body = close_within(alloc, body, numbers, variables, least, under + 1)?;
-            pi(alloc, binder, &domain, &body)
-        }
-        Node::Lam(binder, domain, body) => {
-            let domain = close_within(alloc, domain, numbers, variables, least, under)?;
-            let body = close_within(alloc, body, numbers, variables, least, under + 1)?;
-            lam(alloc, binder, &domain, &body)
-        }
-        Node::App(mark, function, argument) => {
-            let function = close_within(alloc, function, numbers, variables, least, under)?;
-            let argument = close_within(alloc, argument, numbers, variables, least, under)?;
-            app(alloc, mark, &function, &argument)
-        }
-        Node::Sigma(binder, first, second) => {
-            let first = close_within(alloc, first, numbers, variables, least, under)?;
-            let second = close_within(alloc, second, numbers, variables, least, under + 1)?;
-            sigma(alloc, binder, &first, &second)
-        }
-        Node::Pair(binder, a, b, m, n) => {
-            let a = close_within(alloc, a, numbers, variables, least, under)?;
-            let b = close_within(alloc, b, numbers, variables, least, under + 1)?;
-            let m = close_within(alloc, m, numbers, variables, least, under)?;
-            let n = close_within(alloc, n, numbers, variables, least, under)?;
-            pair(alloc, binder, &a, &b, &m, &n)
-        }
-        Node::Fst(of) => {
-            let of = close_within(alloc, of, numbers, variables, least, under)?;
-            fst(alloc, &of)
-        }
-        Node::Snd(of) => {
-            let of = close_within(alloc, of, numbers, variables, least, under)?;
-            snd(alloc, &of)
-        }
-        Node::Local(binder, value, body) => {
-            let value = close_within(alloc, value, numbers, variables, least, under)?;
-            let body = close_within(alloc, body, numbers, variables, least, under + 1)?;
-            local(alloc, binder, &value, &body)
         }
     }
 }

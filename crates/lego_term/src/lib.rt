@@ -17,6 +17,7 @@ mod parts;
 mod seen;
 mod substitution;
 mod term;
+mod traversal;
 mod weight;
 
 pub use binder::{Binder, Mark};

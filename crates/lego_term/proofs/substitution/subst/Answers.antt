@@ -3,4 +3,4 @@ use Rattle.lego_term.proofs.substitution.subst.Goals as goal
 
 pub returns : goal.returns
 unfolding instantiate
-returns c = c.put_at.ensures
+returns c = c.rebuild.ensures
