@@ -155,7 +155,13 @@ impl Leaves for Closed<'_> {
         }
     }
 
-    fn constant(&self, alloc: Global, t: &Term, number: u32, under: u32) -> Result<Term, TermFault> {
+    fn constant(
+        &self,
+        alloc: Global,
+        t: &Term,
+        number: u32,
+        under: u32,
+    ) -> Result<Term, TermFault> {
         match self.variables.get(&number) {
             Some(index) => variable(alloc, *index + under),
             None => Ok(t.share()?),
