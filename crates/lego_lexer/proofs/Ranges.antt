@@ -2,6 +2,7 @@
 use Rattle.std.proofs.Common.{◌≡◌, ℕ, ◌+◌, ◌<◌, ◌≤◌, zero, suc, List, [], ◌∷◌, ◌++◌, length, get_or, map, Some, refl, ap, subst, arith, length-append}
 use Rattle.std.specs.Prelude.{slice_range}
 use Rattle.lego_base.specs.declared.place.Place.{Place}
+use Rattle.lego_base.specs.declared.limits.TheConstants.{MAX_NAME}
 use Rattle.lego_lexer.specs.Tokens.{Lexeme, token_of, Point, Placed, Reads, Tokens, WithinLimits, AllWithinLimits, lexeme_of, placed}
 use Rattle.lego_lexer.specs.declared.token.Token.{Token}
 use Rattle.lego_lexer.specs.declared.token.TokenKind.TheVariants as Kind
@@ -49,10 +50,10 @@ token_in_range place bytes tokens t i d h =
     subst (InRange 0 (0 + length bytes)) (get_or-map (placed bytes) tokens i d) (reads_in_range t.reads i (placed bytes d) within) in
     (range.some, omega (arith, range.within))
 
--- the range of a name that `lex` gives has at most 255 bytes
+-- the range of a name that `lex` gives is no longer than a name may be
 pub name_is_short : (bytes : List ℕ) (tokens : List Token) → AllWithinLimits (map (placed bytes) tokens)
     → (i : ℕ) (d : Token) → i < length tokens → (get_or tokens i d).kind ≡ Kind.Name
-    → length (slice_range bytes (get_or tokens i d).from (get_or tokens i d).to) ≤ 255
+    → length (slice_range bytes (get_or tokens i d).from (get_or tokens i d).to) ≤ MAX_NAME
 name_is_short bytes tokens all i d h e =
     let within : i < length (map (placed bytes) tokens) = omega (arith, length-map (placed bytes) tokens) in
     let t = get_or tokens i d in

@@ -4,6 +4,8 @@ use Rattle.std.specs.Prelude.{slice_range}
 use Rattle.std.specs.List.{list_all}
 use Rattle.std.proofs.lemmas.List.Folds.{drop_split}
 use Rattle.lego_base.specs.declared.place.Place.{Place}
+use Rattle.lego_base.specs.declared.limits.TheConstants.{MAX_NAME}
+use Rattle.lego_lexer.specs.Limits.{MAX_NUMERAL}
 use Rattle.lego_lexer.specs.Bytes.{is_digit, begins_name, goes_on_in_name, begins_with, BeginsToken}
 use Rattle.lego_lexer.specs.Tokens.{Lexeme, Name, Number, OfSymbol, word_text, words, symbol_text, symbols, written_as, has_name_form, has_number_form, number_value, token_of, IsLongest, FaultAt}
 use Rattle.lego_lexer.specs.private.Scanned.{IsRunEnd}
@@ -85,7 +87,7 @@ module _ (bytes : List ℕ) (at to : ℕ) (within : at < length bytes) where
         (name_longest (get_or bytes at 0) (slice_range bytes (at + 1) to) (drop to bytes) lexeme first (stops_there goes_on_in_name bytes to run.stops) (ap token_of (sym text) ∙ is))
 
     pub long_name_there : (place : Place) → BeginsToken (drop at bytes) → written_as word_text words (slice_range bytes at to) ≡ None
-        → 255 < length (slice_range bytes at to) → FaultAt place (drop at bytes) (LongName place)
+        → MAX_NAME < length (slice_range bytes at to) → FaultAt place (drop at bytes) (LongName place)
     long_name_there place begins none long =
         let split : drop at bytes ≡ slice_range bytes at to ++ drop to bytes = drop_split bytes at to run.after in
         subst (λ xs. FaultAt place xs (LongName place)) (sym split)
@@ -110,7 +112,7 @@ module _ (bytes : List ℕ) (at to : ℕ) (within : at < length bytes) where
         subst (λ t. IsLongest t (drop to bytes) value) (sym text)
         (number_longest (get_or bytes at 0) (slice_range bytes (at + 1) to) (drop to bytes) value first (stops_there is_digit bytes to run.stops) (ap token_of (sym text) ∙ number_is))
 
-    pub big_level_there : (place : Place) → BeginsToken (drop at bytes) → 1000000 < number_value (slice_range bytes at to) → FaultAt place (drop at bytes) (BigLevel place)
+    pub big_level_there : (place : Place) → BeginsToken (drop at bytes) → MAX_NUMERAL < number_value (slice_range bytes at to) → FaultAt place (drop at bytes) (BigLevel place)
     big_level_there place begins big =
         let split : drop at bytes ≡ slice_range bytes at to ++ drop to bytes = drop_split bytes at to run.after in
         subst (λ xs. FaultAt place xs (BigLevel place)) (sym split) (FaultAt.big_level (subst BeginsToken split begins) number_there big)

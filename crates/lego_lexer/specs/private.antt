@@ -1,2 +1,3 @@
 pub mod Scanned
+pub mod Spelled
 pub mod StartBefore

@@ -1,8 +1,8 @@
 //! The longest token at an index.
-ghost use Rattle.std.specs.Prelude.{◌≡◌, ◌<◌, ◌≤◌, ◌+◌, drop, length, min, slice_index, IsTrue, IsFalse, MatchResult};
+ghost use Rattle.std.specs.Prelude.{◌≡◌, ◌<◌, ◌≤◌, ◌+◌, ℕ, Bool, drop, length, min, slice_index, IsTrue, IsFalse, MatchResult};
 ghost use Rattle.lego_lexer.specs.Bytes.{begins_name, goes_on_in_name, is_digit, BeginsToken};
 ghost use Rattle.lego_lexer.specs.Tokens.{FaultAt, number_value};
-ghost use Rattle.lego_lexer.specs.private.Scanned.{IsRunEnd, IsScanned};
+ghost use Rattle.lego_lexer.specs.private.Scanned.{Decides, IsRunEnd, IsScanned};
 
 use crate::comment::begins_with;
 use crate::limits::MAX_NUMERAL;
@@ -35,6 +35,21 @@ fn is_digit(byte: u8) -> bool
     byte.is_ascii_digit()
 }
 
+/// The index behind the run of bytes of a kind that begins at `at`.
+fn run_end<F: Fn(u8) -> bool>(bytes: &[u8], at: usize, is_of_kind: F) -> usize
+    requires calls { F.IsAlwaysCallable is_of_kind }
+    requires within { at ≤ length bytes.now }
+    ensures after { at ≤ result }
+    ensures within { result ≤ length bytes.now }
+    ensures run { (kind : ℕ → Bool) → Decides kind (F.post is_of_kind) → IsRunEnd kind bytes.now at result }
+{
+    let mut to = at;
+    while to < bytes.len() && is_of_kind(bytes[to]) {
+        to += 1;
+    }
+    to
+}
+
 /// The longest token at `at`, which stands at `place`; there is neither a blank nor a comment.
 pub fn scan(bytes: &[u8], at: usize, place: Place) -> Result<Scanned, LexFault>
     requires within { at < length bytes.now }
@@ -57,7 +72,7 @@ fn scan_name(bytes: &[u8], at: usize, place: Place) -> Result<Scanned, LexFault>
     requires begins { BeginsToken (drop at bytes.now) }
     ensures { MatchResult result (IsScanned bytes.now at) (FaultAt place (drop at bytes.now)) }
 {
-    let to = name_end(bytes, at);
+    let to = run_end(bytes, at, goes_on_in_name);
     let text = &bytes[at..to];
     if let Some(word) = word(text) {
         let kind = TokenKind::Word(word);
@@ -70,17 +85,6 @@ fn scan_name(bytes: &[u8], at: usize, place: Place) -> Result<Scanned, LexFault>
     Ok(Scanned { kind, to })
 }
 
-fn name_end(bytes: &[u8], at: usize) -> usize
-    requires { at ≤ length bytes.now }
-    ensures { IsRunEnd goes_on_in_name bytes.now at result }
-{
-    let mut to = at;
-    while to < bytes.len() && goes_on_in_name(bytes[to]) {
-        to += 1;
-    }
-    to
-}
-
 /// A numeral.
 fn scan_number(bytes: &[u8], at: usize, place: Place) -> Result<Scanned, LexFault>
     requires within { at < length bytes.now }
@@ -88,24 +92,13 @@ fn scan_number(bytes: &[u8], at: usize, place: Place) -> Result<Scanned, LexFaul
     requires begins { BeginsToken (drop at bytes.now) }
     ensures { MatchResult result (IsScanned bytes.now at) (FaultAt place (drop at bytes.now)) }
 {
-    let to = number_end(bytes, at);
+    let to = run_end(bytes, at, is_digit);
     let value = number_value(&bytes[at..to]);
     if value > MAX_NUMERAL {
         return Err(LexFault::BigLevel { place });
     }
     let kind = TokenKind::Number(value);
     Ok(Scanned { kind, to })
-}
-
-fn number_end(bytes: &[u8], at: usize) -> usize
-    requires { at ≤ length bytes.now }
-    ensures { IsRunEnd is_digit bytes.now at result }
-{
-    let mut to = at;
-    while to < bytes.len() && is_digit(bytes[to]) {
-        to += 1;
-    }
-    to
 }
 
 /// The value of digits, or a greater number than the greatest numeral.

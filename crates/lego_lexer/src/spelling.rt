@@ -1,71 +1,50 @@
 //! What reserved words and symbols are written as.
-ghost use Rattle.std.specs.Prelude.{◌≡◌, [], ◌∷◌};
+ghost use Rattle.std.specs.Prelude.{◌≡◌, ℕ, List, [], ◌∷◌};
+ghost use Rattle.lego_lexer.specs.declared.token.Word.{Word as AWord};
 ghost use Rattle.lego_lexer.specs.Tokens.{written_as, word_text, words, symbol_text, symbols};
+ghost use Rattle.lego_lexer.specs.private.Spelled.{IsTableOf, words_in};
 
 use crate::token::{Symbol, Word};
 
-/// The reserved words.
-const WORDS: [Word; 22] = [
-    Word::Prop,
-    Word::AnyType,
-    Word::Goal,
-    Word::Intros,
-    Word::Refine,
-    Word::Claim,
-    Word::Next,
-    Word::Assumption,
-    Word::Equiv,
-    Word::Save,
-    Word::KillRef,
-    Word::Undo,
-    Word::Forget,
-    Word::Discharge,
-    Word::Prf,
-    Word::Ctxt,
-    Word::Hnf,
-    Word::Normal,
-    Word::Explicit,
-    Word::Implicit,
-    Word::Module,
-    Word::Import,
+/// The reserved words, by what they are written as.
+const WORDS: [(&[u8], Word); 22] = [
+    (b"Prop", Word::Prop),
+    (b"Type", Word::AnyType),
+    (b"Goal", Word::Goal),
+    (b"Intros", Word::Intros),
+    (b"Refine", Word::Refine),
+    (b"Claim", Word::Claim),
+    (b"Next", Word::Next),
+    (b"Assumption", Word::Assumption),
+    (b"Equiv", Word::Equiv),
+    (b"Save", Word::Save),
+    (b"KillRef", Word::KillRef),
+    (b"Undo", Word::Undo),
+    (b"Forget", Word::Forget),
+    (b"Discharge", Word::Discharge),
+    (b"Prf", Word::Prf),
+    (b"Ctxt", Word::Ctxt),
+    (b"Hnf", Word::Hnf),
+    (b"Normal", Word::Normal),
+    (b"Explicit", Word::Explicit),
+    (b"Implicit", Word::Implicit),
+    (b"Module", Word::Module),
+    (b"Import", Word::Import),
 ];
-
-/// What a reserved word is written as.
-fn word_text(word: Word) -> &'static [u8]
-    ensures { result.now ≡ word_text word }
-{
-    match word {
-        Word::Prop => b"Prop",
-        Word::AnyType => b"Type",
-        Word::Goal => b"Goal",
-        Word::Intros => b"Intros",
-        Word::Refine => b"Refine",
-        Word::Claim => b"Claim",
-        Word::Next => b"Next",
-        Word::Assumption => b"Assumption",
-        Word::Equiv => b"Equiv",
-        Word::Save => b"Save",
-        Word::KillRef => b"KillRef",
-        Word::Undo => b"Undo",
-        Word::Forget => b"Forget",
-        Word::Discharge => b"Discharge",
-        Word::Prf => b"Prf",
-        Word::Ctxt => b"Ctxt",
-        Word::Hnf => b"Hnf",
-        Word::Normal => b"Normal",
-        Word::Explicit => b"Explicit",
-        Word::Implicit => b"Implicit",
-        Word::Module => b"Module",
-        Word::Import => b"Import",
-    }
-}
 
 /// The reserved word that the text is, if it is one.
 pub fn word(text: &[u8]) -> Option<Word>
     ensures { result ≡ written_as word_text words text.now }
 {
-    for word in &WORDS {
-        if word_text(*word) == text {
+    look_up(&WORDS, text)
+}
+
+/// The first word of the table that is written as the text.
+fn look_up(table: &[(&[u8], Word)], text: &[u8]) -> Option<Word>
+    ensures { (text_of : AWord → List ℕ) → IsTableOf text_of table.now → result ≡ written_as text_of (words_in table.now) text.now }
+{
+    for (written, word) in table {
+        if *written == text {
             return Some(*word);
         }
     }

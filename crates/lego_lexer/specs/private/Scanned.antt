@@ -21,6 +21,10 @@ Stops Passed Wanted bytes from End = Passed (drop from bytes)
 abbrev pub IsGapEnd : List ℕ → ℕ → Stop → Type 0
 IsGapEnd = Stops Gap BeginsToken
 
+-- answers about bytes are those of a kind of bytes
+abbrev pub Decides : (ℕ → Bool) → (ℕ → Bool → Type 0) → Type 0
+Decides kind Answers = (byte : ℕ) (answer : Bool) → byte < 256 → Answers byte answer → answer ≡ kind byte
+
 -- a run of bytes of a kind, from an index on, ends
 pub record IsRunEnd (p : ℕ → Bool) (bytes : List ℕ) (at to : ℕ) : Type 0 where
   pub after : at ≤ to

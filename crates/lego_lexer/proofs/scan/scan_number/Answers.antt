@@ -1,5 +1,7 @@
 use Rattle.std.proofs.Common.{◌≡◌, ◌<◌, arith}
 use Rattle.std.specs.Prelude.{slice_range}
+use Rattle.lego_lexer.specs.Bytes.{is_digit}
+use Rattle.lego_lexer.specs.Limits.{MAX_NUMERAL}
 use Rattle.lego_lexer.specs.Tokens.{number_value}
 use Rattle.lego_lexer.proofs.ScanLemmas.{number_some, number_there, big_level_there}
 use Rattle.lego_lexer.proofs.scan.scan_number.Goals as goal
@@ -7,15 +9,16 @@ use Rattle.lego_lexer.proofs.scan.scan_number.Goals as goal
 pub returns-then-value-gt-MAX_NUMERAL : goal.returns-then-value-gt-MAX_NUMERAL
 returns-then-value-gt-MAX_NUMERAL c =
     let bytes = c.args.bytes.now in
-    let to = c.number_end-to.result in
-    let big : 1000000 < number_value (slice_range bytes c.args.at to) = omega arith in
-    big_level_there bytes c.args.at to c.requires.within c.requires.first c.number_end-to.ensures c.args.place c.requires.begins big
+    let to = c.run_end-to.result in
+    let run = c.run_end-to.ensures.run is_digit (λ byte answer small says. says) in
+    let big : MAX_NUMERAL < number_value (slice_range bytes c.args.at to) = omega arith in
+    big_level_there bytes c.args.at to c.requires.within c.requires.first run c.args.place c.requires.begins big
 
 pub returns : goal.returns
 returns c =
     let bytes = c.args.bytes.now in
-    let to = c.number_end-to.result in
-    let run = c.number_end-to.ensures in
+    let to = c.run_end-to.result in
+    let run = c.run_end-to.ensures.run is_digit (λ byte answer small says. says) in
     let same : number_value (slice_range bytes c.args.at to) ≡ c.number_value-value.result = omega arith in
     record {
       some = number_some bytes c.args.at to c.requires.within c.requires.first run;
