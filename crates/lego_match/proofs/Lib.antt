@@ -1,6 +1,8 @@
 pub mod AgreementLemmas
 pub mod FormLemmas
 pub mod LevelLemmas
+pub mod AgreeingLemmas
+pub mod FillingLemmas
 pub mod HoleLemmas
 pub mod LoweringLemmas
 pub mod ScopeLemmas

@@ -2,4 +2,5 @@ pub mod Agreement
 pub mod Holes
 pub mod Pairs
 pub mod Answers
+pub mod Fillings
 pub mod private
