@@ -10,4 +10,5 @@ pub mod WalkLemmas
 pub mod PartLemmas
 pub mod NormalLemmas
 pub mod UniqueLemmas
+pub mod AnswerLemmas
 pub mod VerdictLemmas

@@ -3,4 +3,5 @@ pub mod Holes
 pub mod Pairs
 pub mod Answers
 pub mod Fillings
+pub mod Determined
 pub mod private

@@ -1,6 +1,7 @@
 //! Laws of agreement, and of the corresponding pair of two terms.
 ghost use Rattle.lego_match.specs.Agreement.{AgreementIsOfNormalForms};
 ghost use Rattle.lego_match.specs.Pairs.{PairsAreOfNormalForms, PairsAreOne, PairsDisagree};
+ghost use Rattle.lego_match.specs.Determined.{AnswersAreOne};
 ghost use Rattle.lego_match.specs.Fillings.{ClashesAreFinal};
 
 /// Two terms with normal forms agree exactly where these do.
@@ -21,6 +22,11 @@ pub fn pairs_are_one()
 /// Two terms with a corresponding pair don't agree.
 pub fn pairs_disagree()
     ensures { PairsDisagree }
+{}
+
+/// Two terms determine at most one answer: `None`, a candidate, or a refusal of their pair.
+pub fn answers_are_one()
+    ensures { AnswersAreOne }
 {}
 
 /// Two terms whose corresponding pair clashes agree under no bodies of the free holes.
