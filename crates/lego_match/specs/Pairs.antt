@@ -39,7 +39,7 @@ abbrev pub GoesIntoParts : FreeHoles → Core → Core → Type 0
 GoesIntoParts free p q =
     IsFalse (has_free_head free p) × IsFalse (has_free_head free q) × (s : Shape) × (shape_of p ≡ Some s) × (shape_of q ≡ Some s)
 
--- one corresponding pair of two terms, if any, is such that the rule doesn't go into its parts
+-- at most one corresponding pair of two terms is such that the rule doesn't go into its parts
 abbrev pub PairsAreOne : Type 0
 PairsAreOne =
     (b : CoreBodies) (free : FreeHoles) (t u p q p' q' : Core) (xs ys : List Binder)
