@@ -1,8 +1,8 @@
 -- The corresponding pair of two terms is that of their normal forms.
-use Rattle.std.proofs.Common.{◌≡◌, ℕ, zero, suc, Some, None, List, slice_get, IsFalse, refl, sym, ap, ◌∙◌, subst, arith}
+use Rattle.std.proofs.Common.{◌≡◌, ℕ, Some, None, List, slice_get, IsFalse, refl, sym, ◌∙◌, subst, arith}
 use Rattle.lego_term.specs.declared.binder.Binder.{Binder}
-use Rattle.lego_term.specs.Trees.{Core, Pi, Lam, App, Sigma, Pair, Fst, Snd, Let}
-use Rattle.lego_term.specs.Parts.{shape_of, Branch, parts_of}
+use Rattle.lego_term.specs.Trees.{Core}
+use Rattle.lego_term.specs.Parts.{shape_of, parts_of}
 use Rattle.lego_term.specs.Sequences.{normal_step, after, HeadForm, NormalForm}
 use Rattle.lego_laws.specs.Parallel.{CoreBodies}
 use Rattle.lego_laws.proofs.After.{at_most}

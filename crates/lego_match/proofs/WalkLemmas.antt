@@ -1,9 +1,8 @@
 -- A walk through two terms, put together from their head forms and the walk through these.
-use Rattle.std.proofs.Common.{◌≡◌, ℕ, suc, ◌+◌, ◌-◌, ◌≤◌, true, false, Option, Some, None, Result, Ok, Err, List, [], refl, sym, ap, ◌∙◌, arith}
+use Rattle.std.proofs.Common.{◌≡◌, ℕ, suc, ◌+◌, ◌-◌, ◌≤◌, true, false, Some, Result, Ok, Err, List, [], refl, sym, ap, ◌∙◌, arith}
 use Rattle.std.proofs.lemmas.List.{append-nil}
 use Rattle.lego_term.specs.declared.binder.Binder.{Binder}
-use Rattle.lego_term.specs.Trees.{Core, Let, EqualButLevels}
-use Rattle.lego_term.specs.Parts.{Shape, ALet, shape_of}
+use Rattle.lego_term.specs.Trees.{Core, EqualButLevels}
 use Rattle.lego_term.specs.Sequences.{head_step, normal_step, after, Ends}
 use Rattle.lego_laws.specs.Parallel.{CoreBodies}
 use Rattle.lego_laws.specs.HeadForms.{IsHeadForm}
@@ -13,16 +12,16 @@ use Rattle.lego_reduce.specs.declared.fault.ReduceFault.{ReduceFault}
 use Rattle.lego_reduce.specs.declared.fault.ReduceFault.TheVariants as reduce
 use Rattle.lego_reduce.specs.Reduction.{Reduces}
 use Rattle.lego_match.specs.Holes.{FreeHoles}
-use Rattle.lego_match.specs.Agreement.{AgreeIn, but_for_levels, in_normal_forms}
+use Rattle.lego_match.specs.Agreement.{but_for_levels, in_normal_forms}
 use Rattle.lego_match.specs.Pairs.{Corresponds, here, turn}
 use Rattle.lego_match.specs.private.Codes.{agree_at_root}
 use Rattle.lego_match.specs.private.Faults.{stop_of}
-use Rattle.lego_match.specs.private.Walks.{AllAgree, HasLowVariables, GoesOn, EndsHere, Walks, PartsWalk, Settles, Decides, Heads}
+use Rattle.lego_match.specs.private.Walks.{HasLowVariables, GoesOn, EndsHere, Walks, PartsWalk, Settles, Decides, Heads}
 use Rattle.lego_match.specs.declared.stop.Stop.{Stop}
 use Rattle.lego_match.specs.declared.stop.Stop.TheVariants.{Apart, Budget, Whole, Memory}
 use Rattle.lego_match.specs.declared.walk.Position.{Position}
 use Rattle.lego_match.proofs.AgreementLemmas.{shapes_agree}
-use Rattle.lego_match.proofs.FormLemmas.{Ended, ended, behind_heads, before_heads}
+use Rattle.lego_match.proofs.FormLemmas.{Ended, ended, before_heads}
 use Rattle.lego_match.proofs.AgreeingLemmas.{no_local, forms_agree, heads_agree}
 use Rattle.lego_match.proofs.HoleLemmas.{same_free_head}
 

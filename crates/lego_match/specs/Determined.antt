@@ -7,7 +7,7 @@ use Rattle.lego_match.specs.Holes.{FreeHoles}
 use Rattle.lego_match.specs.Answers.{IsCandidate, IsRefusedBy}
 use Rattle.lego_match.specs.declared.answer.Candidate.{Candidate}
 use Rattle.lego_match.specs.declared.fault.MatchFault.{MatchFault}
-use Rattle.lego_match.specs.declared.fault.MatchFault.TheVariants.{Clash, Occurs, Scope, HigherOrder, Budget, TooLarge, Memory}
+use Rattle.lego_match.specs.declared.fault.MatchFault.TheVariants.{Budget, TooLarge, Memory}
 
 -- the answer that the terms agree, a candidate, or a refusal of their pair, where it holds
 abbrev pub Determines : CoreBodies → FreeHoles → ℕ → Core → Core → Result (Option Candidate) MatchFault → Type 0
