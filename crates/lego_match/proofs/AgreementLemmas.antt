@@ -1,9 +1,10 @@
 -- The test of two terms' agreement decides it, and terms agree by their roots and parts.
-use Rattle.std.proofs.Common.{◌≡◌, ℕ, Bool, true, false, ◌&&◌, nat_eq, Some, slice_get, refl, ap, arith, IsTrue, ◌↔◌}
+use Rattle.std.proofs.Common.{◌≡◌, ℕ, Bool, true, false, ◌&&◌, nat_eq, Option, Some, None, option_map, List, [], ◌∷◌, map, slice_get, refl, sym, ap, ◌∙◌, arith, IsTrue, ◌↔◌}
+use Rattle.std.proofs.lemmas.Option.{slice_get-map}
 use Rattle.std.specs.Cmp.Derive.{both_true}
 use Rattle.std.proofs.lemmas.Bool.{false≢true}
 use Rattle.std.proofs.lemmas.Bool.Decides.{nat_tests}
-use Rattle.lego_term.specs.Trees.{Core, Var, Const, Prop, Univ, Pi, Lam, App, Sigma, Pair, Fst, Snd, Let, EqualButLevels}
+use Rattle.lego_term.specs.Trees.{Tree, Core, Var, Const, Prop, Univ, Pi, Lam, App, Sigma, Pair, Fst, Snd, Let, shape, EqualButLevels}
 use Rattle.lego_term.specs.Parts.{Shape, shape_of, Branch, parts_of}
 use Rattle.lego_match.specs.Agreement.{Agree, with_one_sort}
 use Rattle.lego_match.specs.private.Codes.{agrees, agree_at_root}
@@ -111,3 +112,71 @@ root_shapes (Pair x a b m n) (Pair y c d p q) e = refl
 root_shapes (Fst a) (Fst c) e = refl
 root_shapes (Snd a) (Snd c) e = refl
 root_shapes _ _ e = absurd (false≢true e)
+
+-- the form and the parts of a bare tree
+abbrev Bare : Type 0
+Bare = Tree (Unit {0}) (Unit {0}) (Unit {0})
+
+abbrev bare_form : Bare → Option Shape
+bare_form (Pi x a r) = Some Shape.APi
+bare_form (Lam x a r) = Some Shape.ALam
+bare_form (App k m n) = Some Shape.AnApp
+bare_form (Sigma x a r) = Some Shape.ASigma
+bare_form (Pair x a r m n) = Some Shape.APair
+bare_form (Fst m) = Some Shape.AFst
+bare_form (Snd m) = Some Shape.ASnd
+bare_form (Let x m n) = Some Shape.ALet
+bare_form _ = None
+
+abbrev bare_parts : Bare → List Bare
+bare_parts (Pi x a r) = a ∷ r ∷ []
+bare_parts (Lam x a r) = a ∷ r ∷ []
+bare_parts (App k m n) = m ∷ n ∷ []
+bare_parts (Sigma x a r) = a ∷ r ∷ []
+bare_parts (Pair x a r m n) = a ∷ r ∷ m ∷ n ∷ []
+bare_parts (Fst m) = m ∷ []
+bare_parts (Snd m) = m ∷ []
+bare_parts (Let x m n) = m ∷ n ∷ []
+bare_parts _ = []
+
+-- the term's own are these
+record Bared (t : Core) : Type 0 where
+  form : bare_form (with_one_sort (shape t)) ≡ shape_of t
+  parts : bare_parts (shape t) ≡ map (λ (l : Branch). shape l.term) (parts_of t)
+  sorts : bare_parts (with_one_sort (shape t)) ≡ map with_one_sort (bare_parts (shape t))
+
+bared : (t : Core) → Bared t
+bared (Var i) = record { form = refl; parts = refl; sorts = refl }
+bared (Const k) = record { form = refl; parts = refl; sorts = refl }
+bared Prop = record { form = refl; parts = refl; sorts = refl }
+bared (Univ l) = record { form = refl; parts = refl; sorts = refl }
+bared (Pi x a r) = record { form = refl; parts = refl; sorts = refl }
+bared (Lam x a r) = record { form = refl; parts = refl; sorts = refl }
+bared (App k m n) = record { form = refl; parts = refl; sorts = refl }
+bared (Sigma x a r) = record { form = refl; parts = refl; sorts = refl }
+bared (Pair x a r m n) = record { form = refl; parts = refl; sorts = refl }
+bared (Fst m) = record { form = refl; parts = refl; sorts = refl }
+bared (Snd m) = record { form = refl; parts = refl; sorts = refl }
+bared (Let x m n) = record { form = refl; parts = refl; sorts = refl }
+
+-- terms that agree have one form
+pub agree_shapes : (p q : Core) → Agree p q → shape_of p ≡ shape_of q
+agree_shapes p q e = sym (bared p).form ∙ ap bare_form e ∙ (bared q).form
+
+bare_part : (t : Core) (i : ℕ) (l : Branch) → slice_get (parts_of t) i ≡ Some l → slice_get (bare_parts (shape t)) i ≡ Some (shape l.term)
+bare_part t i l x =
+    ap (λ z. slice_get z i) (bared t).parts ∙ slice_get-map (λ (l : Branch). shape l.term) (parts_of t) i ∙ ap (option_map (λ (l : Branch). shape l.term)) x
+
+one_sort_part : (t : Core) (i : ℕ) (l : Branch) → slice_get (parts_of t) i ≡ Some l → slice_get (bare_parts (with_one_sort (shape t))) i ≡ Some (with_one_sort (shape l.term))
+one_sort_part t i l x =
+    ap (λ z. slice_get z i) (bared t).sorts ∙ slice_get-map with_one_sort (bare_parts (shape t)) i ∙ ap (option_map with_one_sort) (bare_part t i l x)
+
+same_bare : {x y : Bare} → Some x ≡ Some y → x ≡ y
+same_bare e = cc
+
+-- parts of terms that are equal but for levels are so, and those of terms that agree agree
+pub level_parts : (p q : Core) (i : ℕ) (l r : Branch) → EqualButLevels p q → slice_get (parts_of p) i ≡ Some l → slice_get (parts_of q) i ≡ Some r → EqualButLevels l.term r.term
+level_parts p q i l r e x y = same_bare (sym (bare_part p i l x) ∙ ap (λ z. slice_get (bare_parts z) i) e ∙ bare_part q i r y)
+
+pub agree_parts : (p q : Core) (i : ℕ) (l r : Branch) → Agree p q → slice_get (parts_of p) i ≡ Some l → slice_get (parts_of q) i ≡ Some r → Agree l.term r.term
+agree_parts p q i l r e x y = same_bare (sym (one_sort_part p i l x) ∙ ap (λ z. slice_get (bare_parts z) i) e ∙ one_sort_part q i r y)

@@ -22,6 +22,26 @@ none_mapped : {X Y : Type 0} (f : X → Y) (o : Option X) → option_map f o ≡
 none_mapped f None e = refl
 none_mapped f (Some x) e = cc
 
+-- forms of one shape have parts of the same numbers
+some_part : (t u : Core) → shape_of t ≡ shape_of u → (i : ℕ) (p : Branch) → slice_get (parts_of t) i ≡ Some p → (q : Branch) × (slice_get (parts_of u) i ≡ Some q)
+some_part (Pi x a r) (Pi y c s) f zero p e = (_, refl)
+some_part (Pi x a r) (Pi y c s) f (suc zero) p e = (_, refl)
+some_part (Lam x a r) (Lam y c s) f zero p e = (_, refl)
+some_part (Lam x a r) (Lam y c s) f (suc zero) p e = (_, refl)
+some_part (App x a r) (App y c s) f zero p e = (_, refl)
+some_part (App x a r) (App y c s) f (suc zero) p e = (_, refl)
+some_part (Sigma x a r) (Sigma y c s) f zero p e = (_, refl)
+some_part (Sigma x a r) (Sigma y c s) f (suc zero) p e = (_, refl)
+some_part (Pair x a r m n) (Pair y c s o q) f zero p e = (_, refl)
+some_part (Pair x a r m n) (Pair y c s o q) f (suc zero) p e = (_, refl)
+some_part (Pair x a r m n) (Pair y c s o q) f (suc (suc zero)) p e = (_, refl)
+some_part (Pair x a r m n) (Pair y c s o q) f (suc (suc (suc zero))) p e = (_, refl)
+some_part (Fst a) (Fst c) f zero p e = (_, refl)
+some_part (Snd a) (Snd c) f zero p e = (_, refl)
+some_part (Let x a r) (Let y c s) f zero p e = (_, refl)
+some_part (Let x a r) (Let y c s) f (suc zero) p e = (_, refl)
+some_part _ _ f i p e = cc
+
 module _ (b : CoreBodies) where
   abbrev IsEnd : Core → Type 0
   IsEnd t = normal_step b t ≡ None
@@ -221,3 +241,18 @@ module _ (b : CoreBodies) where
           let same : k.0 ≡ u = cc in
           let r = go u (subst (λ z. Ends (normal_step b) z n e) same (record { reaches = k.2; last = x.last })) in
           (r.0, (suc r.1.0, record { reaches = ap (option_and_then (after (head_step b) r.1.0)) s ∙ r.1.1.reaches; last = r.1.1.last }), r.2)
+
+  -- a part of a head form, and the part of the normal form in its place
+  pub record Facing (h e : Core) (i : ℕ) (l : Branch) : Type 0 where
+    pub part : Branch
+    pub stands : slice_get (parts_of e) i ≡ Some part
+    pub normal : NormalForm b l.term part.term
+    pub under : l.under ≡ part.under
+
+  pub facing : (h e : Core) → Ended h e → (i : ℕ) (l : Branch) → slice_get (parts_of h) i ≡ Some l → Facing h e i l
+  facing h e d i l x =
+      let s = some_part h e (sym d.shape) i l x in
+      let m = d.parts i s.0 s.1 in
+      let m1 = m.1 in
+      let same : m.0 ≡ l = cc in
+      record { part = s.0; stands = s.1; normal = subst (λ (z : Branch). NormalForm b z.term s.0.term) same m.2; under = ap (λ (z : Branch). z.under) (sym same) ∙ m.3 }

@@ -1,14 +1,14 @@
--- Terms that are equal but for levels have normal forms that are equal but for levels.
+-- Terms that are equal but for levels have head forms and normal forms that are equal but for levels.
 use Rattle.std.proofs.Common.{◌≡◌, ℕ, zero, suc, Option, Some, None, option_map, option_and_then, refl, sym, ap, ap₂, ◌∙◌, subst, arith}
 use Rattle.lego_term.specs.declared.binder.Binder.{Binder}
 use Rattle.lego_term.specs.declared.binder.Mark.{Mark}
 use Rattle.lego_term.specs.declared.level.Level.{Level}
 use Rattle.lego_term.specs.Trees.{Tree, Core, Var, Const, Prop, Univ, Pi, Lam, App, Sigma, Pair, Fst, Snd, Let, Bodies, shape, EqualButLevels}
-use Rattle.lego_term.specs.Sequences.{or_else, head_step, normal_step, after, Ends}
+use Rattle.lego_term.specs.Sequences.{or_else, head_step, normal_step, after, Ends, HeadForm, NormalForm}
 use Rattle.lego_laws.specs.Parallel.{CoreBodies}
 use Rattle.lego_laws.proofs.lemmas.reduction.After.{next, at_most}
 use Rattle.lego_laws.proofs.lemmas.reduction.Mapping.{mapped_bodies, head_step-map}
-use Rattle.lego_match.specs.Pairs.{AgreeIn}
+use Rattle.lego_match.specs.Agreement.{Agree}
 use Rattle.lego_match.proofs.AgreementLemmas.{levels_aside}
 
 or_else-map : {X Y : Type 0} (f : X → Y) (o p : Option X) → or_else (option_map f o) (option_map f p) ≡ option_map f (or_else o p)
@@ -69,14 +69,15 @@ module _ (b : CoreBodies) where
   step-shape (Snd m) = choice _ _ (head_step b (Snd m)) (option_map Snd (normal_step b m)) (head-shape (Snd m)) (in_part Snd Snd (λ z. refl) m (step-shape m))
   step-shape (Let x m n) = head-shape (Let x m n)
 
-  after-shape : (n : ℕ) (t u : Core) → after (normal_step b) n t ≡ Some u → after (normal_step bare) n (shape t) ≡ Some (shape u)
-  after-shape zero t u e = let s : t ≡ u = cc e in ap (λ z. Some (shape z)) s
-  after-shape (suc n) t u e =
-      let k = next (normal_step b) n (normal_step b t) u e in
-      ap (option_and_then (after (normal_step bare) n)) (step-shape t ∙ ap (option_map shape) k.1) ∙ after-shape n k.0 u k.2
+  -- what a sequence reaches, the sequence of bare trees reaches bare
+  after-shape : (f : Core → Option Core) (g : Bare → Option Bare) → ((t : Core) → g (shape t) ≡ option_map shape (f t)) → (n : ℕ) (t u : Core) → after f n t ≡ Some u → after g n (shape t) ≡ Some (shape u)
+  after-shape f g c zero t u e = let s : t ≡ u = cc e in ap (λ z. Some (shape z)) s
+  after-shape f g c (suc n) t u e =
+      let k = next f n (f t) u e in
+      ap (option_and_then (after g n)) (c t ∙ ap (option_map shape) k.1) ∙ after-shape f g c n k.0 u k.2
 
-  end-shape : (n : ℕ) (t u : Core) → Ends (normal_step b) t n u → Ends (normal_step bare) (shape t) n (shape u)
-  end-shape n t u e = record { reaches = after-shape n t u e.reaches; last = step-shape u ∙ ap (option_map shape) e.last }
+  end-shape : (f : Core → Option Core) (g : Bare → Option Bare) → ((t : Core) → g (shape t) ≡ option_map shape (f t)) → (n : ℕ) (t u : Core) → Ends f t n u → Ends g (shape t) n (shape u)
+  end-shape f g c n t u e = record { reaches = after-shape f g c n t u e.reaches; last = c u ∙ ap (option_map shape) e.last }
 
 -- a sequence has one end
 pub one_end : {T : Type 0} (f : T → Option T) (t u v : T) (m n : ℕ) → Ends f t m u → Ends f t n v → u ≡ v
@@ -89,8 +90,15 @@ one_end f t u v m n x y =
     some_is : {T : Type 0} {a c : T} → Some a ≡ Some c → a ≡ c
     some_is e = cc
 
-pub levels_agree : (b : CoreBodies) (t u : Core) → EqualButLevels t u → AgreeIn b t u
-levels_agree b t u e p q x y =
-    let l = end-shape b x.0 t p x.1 in
-    let r = end-shape b y.0 u q y.1 in
+-- terms that are equal but for levels have normal forms that agree, and head forms that are equal but for levels
+pub levels_agree : (b : CoreBodies) (t u p q : Core) → EqualButLevels t u → NormalForm b t p → NormalForm b u q → Agree p q
+levels_agree b t u p q e x y =
+    let l = end-shape b (normal_step b) (normal_step (bare b)) (step-shape b) x.0 t p x.1 in
+    let r = end-shape b (normal_step b) (normal_step (bare b)) (step-shape b) y.0 u q y.1 in
     levels_aside p q (one_end (normal_step (bare b)) (shape u) (shape p) (shape q) x.0 y.0 (subst (λ z. Ends (normal_step (bare b)) z x.0 (shape p)) e l) r)
+
+pub level_heads : (b : CoreBodies) (t u h k : Core) → EqualButLevels t u → HeadForm b t h → HeadForm b u k → EqualButLevels h k
+level_heads b t u h k e x y =
+    let l = end-shape b (head_step b) (head_step (bare b)) (head-shape b) x.0 t h x.1 in
+    let r = end-shape b (head_step b) (head_step (bare b)) (head-shape b) y.0 u k y.1 in
+    one_end (head_step (bare b)) (shape u) (shape h) (shape k) x.0 y.0 (subst (λ z. Ends (head_step (bare b)) z x.0 (shape h)) e l) r

@@ -1,6 +1,8 @@
 pub mod AgreementLemmas
 pub mod FormLemmas
 pub mod LevelLemmas
+pub mod AgreeingLemmas
+pub mod FillingLemmas
 pub mod HoleLemmas
 pub mod LoweringLemmas
 pub mod ScopeLemmas
@@ -8,4 +10,5 @@ pub mod WalkLemmas
 pub mod PartLemmas
 pub mod NormalLemmas
 pub mod UniqueLemmas
+pub mod AnswerLemmas
 pub mod VerdictLemmas

@@ -1,77 +1,39 @@
 -- The corresponding pair of two terms is that of their normal forms.
-use Rattle.std.proofs.Common.{◌≡◌, ℕ, zero, suc, Some, None, List, slice_get, IsFalse, refl, sym, ap, ◌∙◌, subst, arith}
+use Rattle.std.proofs.Common.{◌≡◌, ℕ, Some, None, List, slice_get, IsFalse, refl, sym, ◌∙◌, subst, arith}
 use Rattle.lego_term.specs.declared.binder.Binder.{Binder}
-use Rattle.lego_term.specs.Trees.{Core, Pi, Lam, App, Sigma, Pair, Fst, Snd, Let}
-use Rattle.lego_term.specs.Parts.{shape_of, Branch, parts_of}
+use Rattle.lego_term.specs.Trees.{Core}
+use Rattle.lego_term.specs.Parts.{shape_of, parts_of}
 use Rattle.lego_term.specs.Sequences.{normal_step, after, HeadForm, NormalForm}
 use Rattle.lego_laws.specs.Parallel.{CoreBodies}
 use Rattle.lego_laws.proofs.lemmas.reduction.After.{at_most}
 use Rattle.lego_laws.proofs.lemmas.comparison.Counted.{head_after}
 use Rattle.lego_match.specs.Holes.{FreeHoles, has_free_head}
-use Rattle.lego_match.specs.Pairs.{AgreeIn, AgreeBefore, inside, Corresponds, here, turn, PairsAreOfNormalForms}
-use Rattle.lego_match.proofs.FormLemmas.{Ended, ended, behind_heads, end_is_head, head_of_normal}
+use Rattle.lego_match.specs.Agreement.{AgreeIn, in_normal_forms}
+use Rattle.lego_match.specs.Pairs.{AgreeBefore, inside, Corresponds, here, turn, PairsAreOfNormalForms}
+use Rattle.lego_match.proofs.FormLemmas.{Ended, ended, facing, behind_heads, end_is_head, head_of_normal}
 use Rattle.lego_match.proofs.HoleLemmas.{same_free_head}
-use Rattle.lego_match.proofs.LevelLemmas.{one_end}
-
--- forms of one shape have parts of the same numbers
-some_part : (t u : Core) → shape_of t ≡ shape_of u → (i : ℕ) (p : Branch) → slice_get (parts_of t) i ≡ Some p → (q : Branch) × (slice_get (parts_of u) i ≡ Some q)
-some_part (Pi x a r) (Pi y c s) f zero p e = (_, refl)
-some_part (Pi x a r) (Pi y c s) f (suc zero) p e = (_, refl)
-some_part (Lam x a r) (Lam y c s) f zero p e = (_, refl)
-some_part (Lam x a r) (Lam y c s) f (suc zero) p e = (_, refl)
-some_part (App x a r) (App y c s) f zero p e = (_, refl)
-some_part (App x a r) (App y c s) f (suc zero) p e = (_, refl)
-some_part (Sigma x a r) (Sigma y c s) f zero p e = (_, refl)
-some_part (Sigma x a r) (Sigma y c s) f (suc zero) p e = (_, refl)
-some_part (Pair x a r m n) (Pair y c s o q) f zero p e = (_, refl)
-some_part (Pair x a r m n) (Pair y c s o q) f (suc zero) p e = (_, refl)
-some_part (Pair x a r m n) (Pair y c s o q) f (suc (suc zero)) p e = (_, refl)
-some_part (Pair x a r m n) (Pair y c s o q) f (suc (suc (suc zero))) p e = (_, refl)
-some_part (Fst a) (Fst c) f zero p e = (_, refl)
-some_part (Snd a) (Snd c) f zero p e = (_, refl)
-some_part (Let x a r) (Let y c s) f zero p e = (_, refl)
-some_part (Let x a r) (Let y c s) f (suc zero) p e = (_, refl)
-some_part _ _ f i p e = cc
+use Rattle.lego_match.proofs.AgreeingLemmas.{one_normal, agree_at_ends}
 
 module _ (b : CoreBodies) where
-  pub one_normal : (t p q : Core) → NormalForm b t p → NormalForm b t q → p ≡ q
-  one_normal t p q x y = one_end (normal_step b) t p q x.0 y.0 x.1 y.1
-
   itself : (t e : Core) → NormalForm b t e → NormalForm b e e
   itself t e x = (0, record { reaches = refl; last = x.1.last })
 
-  -- a part of a head form, and the part of the normal form in its place
-  record Facing (h e : Core) (i : ℕ) (l : Branch) : Type 0 where
-    part : Branch
-    stands : slice_get (parts_of e) i ≡ Some part
-    normal : NormalForm b l.term part.term
-    under : l.under ≡ part.under
-
-  facing : (h e : Core) → Ended b h e → (i : ℕ) (l : Branch) → slice_get (parts_of h) i ≡ Some l → Facing h e i l
-  facing h e d i l x =
-      let s = some_part h e (sym d.shape) i l x in
-      let m = d.parts i s.0 s.1 in
-      let m1 = m.1 in
-      let same : m.0 ≡ l = cc in
-      record { part = s.0; stands = s.1; normal = subst (λ (z : Branch). NormalForm b z.term s.0.term) same m.2; under = ap (λ (z : Branch). z.under) (sym same) ∙ m.3 }
-
   -- the parts of head forms agree where those of their normal forms do, and the other way round
   before_normal : (i : ℕ) (h k e f : Core) → Ended b h e → Ended b k f → AgreeBefore b i e f → AgreeBefore b i h k
-  before_normal i h k e f d g a j l r lt x y p q n m =
-      let u = facing h e d j l x in
-      let v = facing k f g j r y in
-      let w = a j u.part v.part lt u.stands v.stands u.part.term v.part.term (itself l.term u.part.term u.normal) (itself r.term v.part.term v.normal) in
-      rw (one_normal l.term p u.part.term n u.normal, one_normal r.term q v.part.term m v.normal) w
+  before_normal i h k e f d g a j l r lt x y =
+      let u = facing b h e d j l x in
+      let v = facing b k f g j r y in
+      in_normal_forms u.normal v.normal
+      (agree_at_ends b (a j u.part v.part lt u.stands v.stands) u.part.term v.part.term (itself l.term u.part.term u.normal) (itself r.term v.part.term v.normal))
 
   after_normal : (i : ℕ) (h k e f : Core) → Ended b h e → Ended b k f → AgreeBefore b i h k → AgreeBefore b i e f
-  after_normal i h k e f d g a j l r lt x y p q n m =
+  after_normal i h k e f d g a j l r lt x y =
       let u = d.parts j l x in
       let v = g.parts j r y in
-      let w = a j u.0 v.0 lt u.1 v.1 l.term r.term u.2 v.2 in
-      rw (one_normal l.term p l.term n (itself u.0.term l.term u.2), one_normal r.term q r.term m (itself v.0.term r.term v.2)) w
+      in_normal_forms (itself u.0.term l.term u.2) (itself v.0.term r.term v.2) (agree_at_ends b (a j u.0 v.0 lt u.1 v.1) l.term r.term u.2 v.2)
 
   -- a normal form is its own head form
-  pub normal_head : (t h : Core) → normal_step b t ≡ None → HeadForm b t h → h ≡ t
+  normal_head : (t h : Core) → normal_step b t ≡ None → HeadForm b t h → h ≡ t
   normal_head t h e p =
       let a = head_after b p.0 t h p.1.reaches in
       let l = at_most (normal_step b) 0 p.0 t t refl e (h, a) in
@@ -90,7 +52,7 @@ module _ (b : CoreBodies) where
     -- the pair of two normal forms is that of the terms
     pub pair_of_terms : {e f p q : Core} {xs : List Binder} → Corresponds b free e f xs p q → (t u : Core) → NormalForm b t e → NormalForm b u f → Corresponds b free t u xs p q
     pair_of_terms (here {t = e} {u = f} {p = p} {q = q} m n d) t u x y =
-        here (subst (λ z. NormalForm b t z) (one_normal e e p (itself t e x) m) x) (subst (λ z. NormalForm b u z) (one_normal f f q (itself u f y) n) y) d
+        here (subst (λ z. NormalForm b t z) (one_normal b e e p (itself t e x) m) x) (subst (λ z. NormalForm b u z) (one_normal b f f q (itself u f y) n) y) d
     pair_of_terms (turn {t = e} {u = f} {h = h} {k = k} {p = p} {q = q} {s = s} {l = l} {r = r} {xs = xs} i m n fh fk sh sk lx rx before c) t u x y =
         let eh = normal_head e h x.1.last m in
         let ek = normal_head f k y.1.last n in
@@ -109,12 +71,12 @@ module _ (b : CoreBodies) where
     -- and the other way round
     pub pair_of_normal : {t u p q : Core} {xs : List Binder} → Corresponds b free t u xs p q → (e f : Core) → NormalForm b t e → NormalForm b u f → Corresponds b free e f xs p q
     pair_of_normal (here {t = t} {u = u} {p = p} {q = q} m n d) e f x y =
-        here (subst (λ z. NormalForm b z p) (one_normal t p e m x) (itself t p m)) (subst (λ z. NormalForm b z q) (one_normal u q f n y) (itself u q n)) d
+        here (subst (λ z. NormalForm b z p) (one_normal b t p e m x) (itself t p m)) (subst (λ z. NormalForm b z q) (one_normal b u q f n y) (itself u q n)) d
     pair_of_normal (turn {t = t} {u = u} {h = h} {k = k} {p = p} {q = q} {s = s} {l = l} {r = r} {xs = xs} i m n fh fk sh sk lx rx before c) e f x y =
         let d = ended b h e m.1.last (behind_heads b m.0 t h e m.1.reaches x) in
         let g = ended b k f n.1.last (behind_heads b n.0 u k f n.1.reaches y) in
-        let v = facing h e d i l lx in
-        let w = facing k f g i r rx in
+        let v = facing b h e d i l lx in
+        let w = facing b k f g i r rx in
         subst (λ z. Corresponds b free e f (inside z xs) p q) (sym v.under)
         (turn i (0, record { reaches = refl; last = end_is_head b e x.1.last }) (0, record { reaches = refl; last = end_is_head b f y.1.last })
         (same_head h e d fh) (same_head k f g fk) (d.shape ∙ sh) (g.shape ∙ sk) v.stands w.stands
@@ -123,8 +85,7 @@ module _ (b : CoreBodies) where
 
   -- where the normal forms agree, the terms do
   pub agree_of_terms : (t u e f : Core) → NormalForm b t e → NormalForm b u f → AgreeIn b e f → AgreeIn b t u
-  agree_of_terms t u e f x y a p q n m =
-      rw (one_normal t p e n x, one_normal u q f m y) (a e f (itself t e x) (itself u f y))
+  agree_of_terms t u e f x y a = in_normal_forms x y (agree_at_ends b a e f (itself t e x) (itself u f y))
 
 pub pairs_are_of_normal_forms : PairsAreOfNormalForms
 pairs_are_of_normal_forms b free t u p q t' u' xs c x y = pair_of_normal b free c t' u' x y

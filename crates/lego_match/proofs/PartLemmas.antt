@@ -10,7 +10,8 @@ use Rattle.lego_laws.specs.HeadForms.{IsHeadForm}
 use Rattle.lego_laws.specs.Counting.{HasSteps, PartsHaveSteps, up_to_here, and_then}
 use Rattle.lego_laws.proofs.lemmas.reduction.Stuck.{app_stuck, fst_stuck, snd_stuck}
 use Rattle.lego_match.specs.Holes.{FreeHoles, has_free_head}
-use Rattle.lego_match.specs.Pairs.{AgreeIn, AgreeBefore, Corresponds, turn}
+use Rattle.lego_match.specs.Agreement.{AgreeIn}
+use Rattle.lego_match.specs.Pairs.{AgreeBefore, Corresponds, turn}
 use Rattle.lego_match.specs.private.Codes.{position_inside}
 use Rattle.lego_match.specs.private.Walks.{IsNormal, AllAgree, Walks, PartWalks, PartsWalk}
 use Rattle.lego_match.specs.declared.stop.Stop.{Stop}

@@ -14,8 +14,8 @@ use Rattle.lego_reduce.specs.declared.fault.ReduceFault.{ReduceFault}
 use Rattle.lego_reduce.specs.declared.fault.ReduceFault.TheVariants as reduce
 use Rattle.lego_reduce.specs.Reduction.{Reduces}
 use Rattle.lego_match.specs.Holes.{FreeHoles, IsApplied}
-use Rattle.lego_match.specs.Pairs.{AgreeIn, Corresponds, here, turn}
-use Rattle.lego_match.specs.Agreement.{Agree}
+use Rattle.lego_match.specs.Pairs.{Corresponds, here, turn}
+use Rattle.lego_match.specs.Agreement.{Agree, AgreeIn}
 use Rattle.lego_match.specs.Answers.{Solves, of_left, of_right, IsCandidate, IsRefusedBy}
 use Rattle.lego_match.specs.private.Walks.{EndsHere, HasLowVariables, StopsUnder, StopsBy, TooMany, IsNormal}
 use Rattle.lego_match.specs.declared.walk.Position.{Position}

@@ -1,9 +1,8 @@
 -- A walk through two terms, put together from their head forms and the walk through these.
-use Rattle.std.proofs.Common.{◌≡◌, ℕ, suc, ◌+◌, ◌-◌, ◌≤◌, true, false, Option, Some, None, Result, Ok, Err, List, [], refl, sym, ap, ◌∙◌, arith}
+use Rattle.std.proofs.Common.{◌≡◌, ℕ, suc, ◌+◌, ◌-◌, ◌≤◌, true, false, Some, Result, Ok, Err, List, [], refl, sym, ap, ◌∙◌, arith}
 use Rattle.std.proofs.lemmas.List.{append-nil}
 use Rattle.lego_term.specs.declared.binder.Binder.{Binder}
-use Rattle.lego_term.specs.Trees.{Core, Let, EqualButLevels}
-use Rattle.lego_term.specs.Parts.{Shape, ALet, shape_of}
+use Rattle.lego_term.specs.Trees.{Core, EqualButLevels}
 use Rattle.lego_term.specs.Sequences.{head_step, normal_step, after, Ends}
 use Rattle.lego_laws.specs.Parallel.{CoreBodies}
 use Rattle.lego_laws.specs.HeadForms.{IsHeadForm}
@@ -13,44 +12,27 @@ use Rattle.lego_reduce.specs.declared.fault.ReduceFault.{ReduceFault}
 use Rattle.lego_reduce.specs.declared.fault.ReduceFault.TheVariants as reduce
 use Rattle.lego_reduce.specs.Reduction.{Reduces}
 use Rattle.lego_match.specs.Holes.{FreeHoles}
-use Rattle.lego_match.specs.Pairs.{AgreeIn, Corresponds, here, turn}
+use Rattle.lego_match.specs.Agreement.{but_for_levels, in_normal_forms}
+use Rattle.lego_match.specs.Pairs.{Corresponds, here, turn}
 use Rattle.lego_match.specs.private.Codes.{agree_at_root}
 use Rattle.lego_match.specs.private.Faults.{stop_of}
-use Rattle.lego_match.specs.private.Walks.{AllAgree, HasLowVariables, GoesOn, EndsHere, Walks, PartsWalk, Settles, Decides, Heads}
+use Rattle.lego_match.specs.private.Walks.{HasLowVariables, GoesOn, EndsHere, Walks, PartsWalk, Settles, Decides, Heads}
 use Rattle.lego_match.specs.declared.stop.Stop.{Stop}
 use Rattle.lego_match.specs.declared.stop.Stop.TheVariants.{Apart, Budget, Whole, Memory}
 use Rattle.lego_match.specs.declared.walk.Position.{Position}
-use Rattle.lego_match.proofs.AgreementLemmas.{parts_agree, shapes_agree, root_shapes}
-use Rattle.lego_match.proofs.FormLemmas.{Ended, ended, behind_heads, before_heads}
-use Rattle.lego_match.proofs.LevelLemmas.{levels_agree, one_end}
+use Rattle.lego_match.proofs.AgreementLemmas.{shapes_agree}
+use Rattle.lego_match.proofs.FormLemmas.{Ended, ended, before_heads}
+use Rattle.lego_match.proofs.AgreeingLemmas.{no_local, forms_agree, heads_agree}
 use Rattle.lego_match.proofs.HoleLemmas.{same_free_head}
 
 module _ (b : CoreBodies) where
-  no_local : (h : Core) → IsHeadForm b h → shape_of h ≡ Some ALet → ⊥
-  no_local (Let x m n) s e = cc
-  no_local _ s e = cc
-
-  same_root : (h k p q : Core) → IsHeadForm b h → Ended b h p → Ended b k q → agree_at_root h k ≡ true → agree_at_root p q ≡ true
-  same_root h k p q s l r e = by_shape (shape_of h) refl
-    where
-      by_shape : (o : Option Shape) → shape_of h ≡ o → agree_at_root p q ≡ true
-      by_shape None z = rw (l.leaf z, r.leaf (sym (root_shapes h k e) ∙ z)) e
-      by_shape (Some f) z = shapes_agree p q f (l.shape ∙ z) (r.shape ∙ (sym (root_shapes h k e) ∙ z)) (λ y. no_local h s (z ∙ ap Some y))
-
-  -- head forms agree where their roots and all their parts do
-  pub forms_agree : (h k : Core) → IsHeadForm b h → IsHeadForm b k → agree_at_root h k ≡ true → AllAgree b h k → AgreeIn b h k
-  forms_agree h k s s' e all p q x y =
-      let l = ended b h p s x in
-      let r = ended b k q s' y in
-      parts_agree p q (same_root h k p q s l r e) (λ j m n u v. (let i = l.parts j m u in let o = r.parts j n v in all j i.0 o.0 i.1 o.1 m.term n.term i.2 o.2))
-
   -- whether two normal forms agree settles whether head forms do
   pub decided_settles : (h k p q : Core) (at : Position) (i j steps : ℕ) → Ends (normal_step b) h i p → Ends (normal_step b) k j q → i + j ≡ steps → steps ≤ at.limit → HasLowVariables p → HasLowVariables q
       → (result : Result ℕ Stop) → Decides p q steps result → Settles b h k at result
   decided_settles h k p q at i j steps x y sum le lp lq (Ok made) d =
       let e = d.1 in
       record {
-        agreed = λ p' q' x' y'. rw (← one_end (normal_step b) h p p' i x'.0 x x'.1, ← one_end (normal_step b) k q q' j y'.0 y y'.1) d.0;
+        agreed = in_normal_forms (i, x) (j, y) d.0;
         kept = refl;
         left = i;
         right = j;
@@ -82,7 +64,7 @@ module _ (b : CoreBodies) where
         why (
           sym (same_free_head free p h l.head) ∙ fp,
           sym (same_free_head free q k r.head) ∙ fq,
-          shapes_agree h k f (sym l.shape ∙ e) (sym r.shape ∙ e') (λ y. no_local h s (sym l.shape ∙ (e ∙ ap Some y))),
+          shapes_agree h k f (sym l.shape ∙ e) (sym r.shape ∙ e') (λ y. no_local b h s (sym l.shape ∙ (e ∙ ap Some y))),
         )
 
     pub settled : (h k : Core) (at : Position) (old : List Binder) (result : Result ℕ Stop) → IsHeadForm b h → IsHeadForm b k → (GoesOn free h k → ⊥) → Settles b h k at result → Walks b free h k at old old result
@@ -105,7 +87,7 @@ module _ (b : CoreBodies) where
     pub through_parts : (h k : Core) (at : Position) (old new : List Binder) (result : Result ℕ Stop) → IsHeadForm b h → IsHeadForm b k → agree_at_root h k ≡ true → PartsWalk b free h k 0 at old new result → Walks b free h k at old new result
     through_parts h k at old new (Ok steps) s s' e w =
         record {
-          agreed = forms_agree h k s s' e w.agreed;
+          agreed = forms_agree b h k s s' e w.agreed;
           kept = w.kept;
           left = w.left;
           right = w.right;
@@ -122,7 +104,7 @@ module _ (b : CoreBodies) where
 
     pub equal_passes : (t u : Core) (at : Position) (old : List Binder) → EqualButLevels t u → Walks b free t u at old old (Ok 0)
     equal_passes t u at old e =
-        record { agreed = levels_agree b t u e; kept = refl; left = 0; right = 0; left_has = (t, refl); right_has = (u, refl); sum = refl; within = omega arith }
+        record { agreed = but_for_levels e; kept = refl; left = 0; right = 0; left_has = (t, refl); right_has = (u, refl); sum = refl; within = omega arith }
 
     -- the corresponding pair of two terms is that of any on their head sequences
     pub pair_before : (i j : ℕ) (t u h k p q : Core) (xs : List Binder) → after (head_step b) i t ≡ Some h → after (head_step b) j u ≡ Some k → Corresponds b free h k xs p q → Corresponds b free t u xs p q
@@ -137,7 +119,7 @@ module _ (b : CoreBodies) where
         let sum = w.sum in
         let within = w.within in
         record {
-          agreed = λ p q m n. w.agreed p q (behind_heads b i t h p x m) (behind_heads b j u k q y n);
+          agreed = heads_agree b i j t u h k x y s s' w.agreed;
           kept = w.kept;
           left = i + w.left;
           right = j + w.right;

@@ -5,14 +5,10 @@ use Rattle.lego_term.specs.Trees.{Core}
 use Rattle.lego_term.specs.Parts.{Shape, shape_of, Branch, parts_of}
 use Rattle.lego_term.specs.Sequences.{HeadForm, NormalForm}
 use Rattle.lego_laws.specs.Parallel.{CoreBodies}
-use Rattle.lego_match.specs.Agreement.{Agree}
+use Rattle.lego_match.specs.Agreement.{Agree, AgreeIn}
 use Rattle.lego_match.specs.Holes.{FreeHoles, has_free_head}
 
--- the normal forms of the two terms agree, where both have one
-abbrev pub AgreeIn : CoreBodies → Core → Core → Type 0
-AgreeIn b t u = (p q : Core) → NormalForm b t p → NormalForm b u q → Agree p q
-
--- the normal forms of their parts before the numbered one agree
+-- their parts before the numbered one agree
 abbrev pub AgreeBefore : CoreBodies → ℕ → Core → Core → Type 0
 AgreeBefore b i h k =
     (j : ℕ) (l r : Branch) → j < i → slice_get (parts_of h) j ≡ Some l → slice_get (parts_of k) j ≡ Some r → AgreeIn b l.term r.term
@@ -43,15 +39,13 @@ abbrev pub GoesIntoParts : FreeHoles → Core → Core → Type 0
 GoesIntoParts free p q =
     IsFalse (has_free_head free p) × IsFalse (has_free_head free q) × (s : Shape) × (shape_of p ≡ Some s) × (shape_of q ≡ Some s)
 
--- where two terms have normal forms, one corresponding pair is such that the rule doesn't go into its parts
+-- at most one corresponding pair of two terms is such that the rule doesn't go into its parts
 abbrev pub PairsAreOne : Type 0
 PairsAreOne =
-    (b : CoreBodies) (free : FreeHoles) (t u t' u' : Core) → NormalForm b t t' → NormalForm b u u'
-    → (p q p' q' : Core) (xs ys : List Binder) → Corresponds b free t u xs p q → (GoesIntoParts free p q → ⊥)
+    (b : CoreBodies) (free : FreeHoles) (t u p q p' q' : Core) (xs ys : List Binder)
+    → Corresponds b free t u xs p q → (GoesIntoParts free p q → ⊥)
     → Corresponds b free t u ys p' q' → (GoesIntoParts free p' q' → ⊥) → (xs ≡ ys) × (p ≡ p') × (q ≡ q')
 
--- and then they don't agree
+-- two terms with a corresponding pair don't agree
 abbrev pub PairsDisagree : Type 0
-PairsDisagree =
-    (b : CoreBodies) (free : FreeHoles) (t u t' u' : Core) → NormalForm b t t' → NormalForm b u u'
-    → (p q : Core) (xs : List Binder) → Corresponds b free t u xs p q → AgreeIn b t u → ⊥
+PairsDisagree = (b : CoreBodies) (free : FreeHoles) (t u p q : Core) (xs : List Binder) → Corresponds b free t u xs p q → AgreeIn b t u → ⊥

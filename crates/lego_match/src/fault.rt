@@ -11,7 +11,7 @@ use std::alloc::AllocError;
 /// walk has crossed, the outermost first.
 #[derive(Drop)]
 pub enum MatchFault {
-    /// The parts of this pair have no free hole at their heads, and not one form.
+    /// The parts of this pair have no free hole at their heads, and not one form with parts.
     Clash {
         left: Term,
         right: Term,

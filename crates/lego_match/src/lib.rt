@@ -14,5 +14,8 @@ mod walk;
 
 pub use answer::Candidate;
 pub use fault::MatchFault;
-pub use laws::{pairs_are_of_normal_forms, pairs_are_one, pairs_disagree};
+pub use laws::{
+    agreement_is_of_normal_forms, answers_are_one, clashes_are_final, pairs_are_of_normal_forms,
+    pairs_are_one, pairs_disagree,
+};
 pub use matching::candidate;

@@ -4,9 +4,8 @@ ghost use Rattle.std.specs.Ordering.{nat_cmp};
 ghost use Rattle.std.specs.BTreeMap.{get};
 ghost use Rattle.lego_term.specs.Trees.{loose};
 ghost use Rattle.lego_term.specs.BodyMap.{bodies_in, AreClosed};
-ghost use Rattle.lego_match.specs.Agreement.{Agree};
+ghost use Rattle.lego_match.specs.Agreement.{Agree, AgreeIn};
 ghost use Rattle.lego_match.specs.Holes.{listed};
-ghost use Rattle.lego_match.specs.Pairs.{AgreeIn};
 ghost use Rattle.lego_match.specs.Answers.{IsCandidate, IsRefusedBy};
 ghost use Rattle.lego_match.specs.private.Walks.{IsNormal, HasLowVariables, EndsHere};
 ghost use Rattle.lego_match.specs.private.Verdicts.{IsAnswer, IsNormalAnswer, IsVerdict, IsSolution, IsUnsolved};
@@ -22,12 +21,12 @@ use lego_term::{Binder, Bodies, List, MAX_DEPTH, Term, mentions};
 use std::alloc::Global;
 
 /// The hole and the body that two terms determine: their normal forms are walked together, left
-/// to right, to the first parts that don't agree, universes aside. `None` where there are none.
+/// to right, to the first parts that don't agree, universes aside. `None` where the terms agree.
 ///
-/// `free` lists the free holes with their numbers of hypotheses, and `depth` is the number of
-/// locals under which the terms stand, at most 65,536. The terms' loose variables are below
-/// 63,536, and no body has one. The normalisation sequences of both terms together have at most
-/// `limit` steps, or a pair was found before.
+/// `free` lists the free holes with their numbers of hypotheses; of a hole that is listed twice,
+/// the first counts. `depth` is the number of locals under which the terms stand, at most 65,536.
+/// The terms' loose variables are below 63,536, and no body has one. The normalisation sequences
+/// of both terms together have at most `limit` steps, or a pair was found before.
 pub fn candidate(
     alloc: Global,
     ctx_bodies: &Bodies,

@@ -3,8 +3,8 @@ use Rattle.std.specs.Prelude.{◌≡◌, ℕ, ◌-◌, ◌<◌, ◌⊎◌, List,
 use Rattle.lego_term.specs.declared.binder.Binder.{Binder}
 use Rattle.lego_term.specs.Trees.{Core, lift, mentions}
 use Rattle.lego_laws.specs.Parallel.{CoreBodies}
+use Rattle.lego_match.specs.Agreement.{AgreeIn}
 use Rattle.lego_match.specs.Holes.{FreeHoles, has_free_head}
-use Rattle.lego_match.specs.Pairs.{AgreeIn}
 use Rattle.lego_match.specs.Answers.{first_below, IsSolved, OccursIn, Escapes, IsHigherOrder, Clashes, IsCandidate, IsRefusedBy}
 use Rattle.lego_match.specs.declared.answer.Candidate.{Candidate}
 use Rattle.lego_match.specs.declared.holes.Hole.{Hole}

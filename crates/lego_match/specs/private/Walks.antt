@@ -9,9 +9,9 @@ use Rattle.lego_laws.specs.Counting.{HasSteps, PartsHaveSteps}
 use Rattle.lego_reduce.specs.declared.fault.ReduceFault.{ReduceFault}
 use Rattle.lego_reduce.specs.declared.head_form.Reduced.{Reduced}
 use Rattle.lego_reduce.specs.Reduction.{Reduces}
-use Rattle.lego_match.specs.Agreement.{Agree}
+use Rattle.lego_match.specs.Agreement.{Agree, AgreeIn}
 use Rattle.lego_match.specs.Holes.{FreeHoles, has_free_head}
-use Rattle.lego_match.specs.Pairs.{AgreeIn, Corresponds, inside}
+use Rattle.lego_match.specs.Pairs.{Corresponds, inside}
 use Rattle.lego_match.specs.private.Codes.{agree_at_root}
 use Rattle.lego_match.specs.private.Faults.{stop_of}
 use Rattle.lego_match.specs.declared.walk.Position.{Position}
