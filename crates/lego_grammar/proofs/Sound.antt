@@ -1,20 +1,18 @@
 -- What the machine goes over, the grammar reads.
-use Rattle.std.proofs.Common.{◌≡◌, ◌⊎◌, inl, inr, ℕ, suc, List, [], ◌∷◌, ◌++◌, Bool, true, false, Some, None, slice_get, map, refl, sym, ap, ◌∙◌, subst, append_assoc}
+use Rattle.std.proofs.Common.{◌≡◌, ◌⊎◌, ℕ, suc, List, [], ◌∷◌, ◌++◌, Bool, true, false, Some, None, slice_get, map, sym, ap, ◌∙◌, append_assoc}
 use Rattle.lego_base.specs.declared.place.Place.{Place}
 use Rattle.lego_term.specs.declared.binder.Mark.{Mark}
 use Rattle.lego_term.specs.declared.binder.Mark.TheVariants.{Plain, Implicit}
 use Rattle.lego_lexer.specs.Tokens.{Name, Number}
 use Rattle.lego_lexer.specs.declared.token.Word.{Word}
-use Rattle.lego_lexer.specs.declared.token.Symbol.TheVariants.{OpenSquare, CloseSquare, OpenParen, Colon, Semicolon, Comma, Equals, Dot, Hash, Question, Arrow, Bar}
+use Rattle.lego_lexer.specs.declared.token.Symbol.TheVariants.{OpenSquare, CloseSquare, OpenParen, Colon, Comma, Equals, Dot, Hash, Question, Arrow, Bar}
 use Rattle.lego_grammar.specs.declared.surface.Kind.{Kind}
-use Rattle.lego_grammar.specs.declared.surface.Kind.TheVariants.{Lambda, Pi, Sigma}
-use Rattle.lego_grammar.specs.declared.surface.Part.TheVariants.{First, Second}
-use Rattle.lego_grammar.specs.Written.{Written, Named, WrittenProp, AnyType, TypeAt, GoalAt, Apply, Pair, Project, NameAt, Assumed, Defined, WrittenBinding, WrittenAct, WrittenCommand}
-use Rattle.lego_grammar.specs.Grammar as G
-use Rattle.lego_grammar.specs.Grammar.{Names, Nested, token, symbol, word, NameList, Form, Term, Ending, Sum, Spine, Post, Atom, Binder, Reads, ReadsBinding, ReadsBindings, ReadsNames, ReadsAct, ReadsCommand, places_of, names_of, opening, closing, sign, MayBind}
-use Rattle.lego_grammar.specs.private.Machine.{Site, InTerm, InContext, Use, ToShow, ToGoal, act_for, Frame, ApplyTo, HashFrom, ArrowFrom, BodyOf, BodyWith, Parens, SecondOf, TypeOf, DomainOf, ValueOf, StatedFor, Whole, Mode, Start, Want, WantLevel, CloseLevel, Behind, WantPart, WantGoal, WantName, BehindName, Between, BehindGoal, BehindGoalName, WantIntros, WantNext, WantUndo, WantForget, WantDischarge, BehindSave, WantEnd, Done, keep, number, height, settled, summed, closed}
-use Rattle.lego_grammar.proofs.Transitions.{Operand, Closes, Move, Fits, TermWord, WaitingWord, binding_at, kind_of}
-use Rattle.lego_grammar.proofs.Complete.{kept-named, kept-prop, kept-apply, kept-project, kept-pair, kept-bind, kept-local, numbered, kept_binding, kept_act, height-settled}
+use Rattle.lego_grammar.specs.declared.surface.Kind.TheVariants.{Lambda}
+use Rattle.lego_grammar.specs.Written.{Written, AnyType, NameAt, WrittenBinding, WrittenAct, WrittenCommand}
+use Rattle.lego_grammar.specs.Grammar.{Names, Nested, token, symbol, word, NameList, Term, Sum, Spine, Post, Reads, ReadsBindings, ReadsNames, ReadsAct, ReadsCommand, places_of, names_of, opening, closing, sign, MayBind}
+use Rattle.lego_grammar.specs.private.Machine.{Site, InTerm, InContext, Use, ToShow, ToGoal, Frame, ApplyTo, HashFrom, ArrowFrom, BodyOf, BodyWith, Parens, SecondOf, TypeOf, DomainOf, ValueOf, StatedFor, Whole, Mode, Start, Want, WantLevel, CloseLevel, Behind, WantPart, WantGoal, WantName, BehindName, Between, BehindGoal, BehindGoalName, WantIntros, WantNext, WantUndo, WantForget, WantDischarge, BehindSave, WantEnd, Done, keep, number, height}
+use Rattle.lego_grammar.proofs.Transitions.{TermWord, kind_of}
+use Rattle.lego_grammar.proofs.Complete.{numbered, kept_binding, kept_act}
 
 pub glue : (ws us : List Nested) (t : Nested) (ts : List Nested) → ws ++ (us ++ t ∷ ts) ≡ (ws ++ (us ++ t ∷ [])) ++ ts
 glue ws us t ts = sym (append_assoc ws (us ++ t ∷ []) ts ∙ ap (λ l. ws ++ l) (append_assoc us (t ∷ []) ts))

@@ -1,22 +1,21 @@
 -- Each move keeps what the frames hold.
-use Rattle.std.proofs.Common.{◌≡◌, ◌⊎◌, inl, inr, ℕ, suc, List, [], ◌∷◌, ◌++◌, Bool, true, false, Some, None, slice_get, map, refl, sym, ap, ◌∙◌, subst, append_assoc}
+use Rattle.std.proofs.Common.{◌≡◌, ◌⊎◌, inl, inr, ℕ, suc, List, [], ◌∷◌, ◌++◌, Bool, Some, None, slice_get, map, refl, sym, ap, ◌∙◌, subst, append_assoc}
 use Rattle.lego_base.specs.declared.place.Place.{Place}
 use Rattle.lego_term.specs.declared.binder.Mark.{Mark}
 use Rattle.lego_term.specs.declared.binder.Mark.TheVariants.{Plain, Implicit}
 use Rattle.lego_lexer.specs.Tokens.{Name, Number}
 use Rattle.lego_lexer.specs.declared.token.Word.{Word}
-use Rattle.lego_lexer.specs.declared.token.Symbol.TheVariants.{OpenSquare, CloseSquare, OpenParen, Colon, Semicolon, Comma, Equals, Dot, Hash, Question, Arrow, Bar}
-use Rattle.lego_grammar.specs.declared.surface.Kind.{Kind}
+use Rattle.lego_lexer.specs.declared.token.Symbol.TheVariants.{OpenSquare, OpenParen, Colon, Semicolon, Comma, Equals, Dot, Hash, Arrow, Bar}
 use Rattle.lego_grammar.specs.declared.surface.Kind.TheVariants.{Lambda, Pi, Sigma}
 use Rattle.lego_grammar.specs.declared.surface.Part.TheVariants.{First, Second}
-use Rattle.lego_grammar.specs.Written.{Written, Named, WrittenProp, AnyType, TypeAt, GoalAt, Apply, Pair, Project, NameAt, Assumed, Defined, WrittenBinding, WrittenAct, WrittenCommand}
+use Rattle.lego_grammar.specs.Written.{Written, Named, WrittenProp, AnyType, TypeAt, GoalAt, Pair, Project, NameAt, Assumed, Defined, WrittenBinding, WrittenAct}
 use Rattle.lego_grammar.specs.Grammar as G
 use Rattle.lego_grammar.specs.Grammar.{Names, Nested, token, symbol, word, NameList, Form, Term, Ending, Sum, Spine, Post, Atom, Binder, Reads, ReadsBinding, ReadsBindings, ReadsNames, ReadsAct, ReadsCommand, places_of, names_of, opening, closing, sign, MayBind}
-use Rattle.lego_grammar.specs.private.Machine.{Site, InTerm, InContext, Use, ToShow, ToGoal, act_for, Frame, ApplyTo, HashFrom, ArrowFrom, BodyOf, BodyWith, Parens, SecondOf, TypeOf, DomainOf, ValueOf, StatedFor, Whole, Mode, Start, Want, WantLevel, CloseLevel, Behind, WantPart, WantGoal, WantName, BehindName, Between, BehindGoal, BehindGoalName, WantIntros, WantNext, WantUndo, WantForget, WantDischarge, BehindSave, WantEnd, Done, keep, number, height, settled, summed, closed}
+use Rattle.lego_grammar.specs.private.Machine.{Site, InTerm, InContext, Use, ToShow, ToGoal, act_for, Frame, ApplyTo, HashFrom, ArrowFrom, BodyOf, BodyWith, Parens, SecondOf, TypeOf, DomainOf, ValueOf, StatedFor, Whole, Mode, Behind, BehindName, WantEnd, Done, keep, number, height, settled, summed, closed}
 use Rattle.lego_grammar.proofs.Transitions.{Operand, Closes, Move, Fits, TermWord, WaitingWord, binding_at, kind_of}
-use Rattle.lego_grammar.proofs.Complete.{kept-named, kept-prop, kept-apply, kept-project, kept-pair, kept-bind, kept-local, numbered, kept_binding, kept_act, height-settled}
-use Rattle.lego_grammar.proofs.Sound.{glue, push, NoApply, NoSum, Begins, SomeBindings, Awaits, IsType, Opened, NamesTo, Worded, Holds}
-use Rattle.lego_grammar.proofs.SoundEnds.{Got, as_term, Suits, suits_sum, suits_ending, suits_binder, suits_term, Ended, same_tokens, ended, close, Settled, settle, Summed, same_summed, sum_tail, sum_of, argument, bar_argument, hash_side, arrow_side}
+use Rattle.lego_grammar.proofs.Complete.{kept-named, kept-prop, kept-project, kept-pair, numbered, kept_binding, kept_act, height-settled}
+use Rattle.lego_grammar.proofs.Sound.{glue, push, Begins, SomeBindings, Awaits, Opened, NamesTo, Holds}
+use Rattle.lego_grammar.proofs.SoundEnds.{Got, Suits, close, argument, bar_argument, hash_side, arrow_side}
 
 module _ (names : Names) (b : Bool) where
   operand_step : {all : List Nested} {fs gs : List Frame} {n : ℕ} {t : Nested} {m : Mode} → Operand b fs t n m gs → Awaits names b all fs → Fits names b t.lexeme n → Holds names b m gs (all ++ t ∷ [])
