@@ -9,7 +9,8 @@ use Rattle.lego_grammar.specs.private.Machine.{Frame, Mode, Start, Between, Stat
 use Rattle.lego_grammar.specs.private.Runs.{class, goes, start_of}
 use Rattle.lego_grammar.proofs.Transitions.{Fits, Runs, runs_on}
 use Rattle.lego_grammar.proofs.Complete.{complete_command}
-use Rattle.lego_grammar.proofs.Sound.{Holds, step}
+use Rattle.lego_grammar.proofs.Sound.{Holds}
+use Rattle.lego_grammar.proofs.SoundSteps.{step}
 use Rattle.lego_grammar.proofs.Finish.{finish}
 use Rattle.lego_grammar.proofs.Moving.{move_to, move_from}
 use Rattle.lego_grammar.proofs.Unique.{fits_zero}

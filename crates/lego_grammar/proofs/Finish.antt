@@ -11,7 +11,8 @@ use Rattle.lego_grammar.specs.Written.{Written, WrittenProp, WrittenBinding, Wri
 use Rattle.lego_grammar.specs.Grammar.{Names, Nested, token, symbol, word, closing, MayBind}
 use Rattle.lego_grammar.specs.private.Machine.{Site, InContext, ToGoal, Frame, BodyOf, BodyWith, Parens, SecondOf, TypeOf, DomainOf, Whole, Mode, Start, Want, WantLevel, CloseLevel, Behind, WantPart, WantGoal, WantName, BehindName, Between, BehindGoal, BehindGoalName, WantIntros, WantNext, WantUndo, WantForget, WantDischarge, BehindSave, WantEnd, Done, keep, number, height, closed}
 use Rattle.lego_grammar.proofs.Transitions.{Operand, Closes, Move, Fits, WaitingWord, Runs, run_one, kind_of}
-use Rattle.lego_grammar.proofs.Sound.{Awaits, Holds, step}
+use Rattle.lego_grammar.proofs.Sound.{Awaits, Holds}
+use Rattle.lego_grammar.proofs.SoundSteps.{step}
 
 -- a place for the tokens that end a command
 abbrev here : Place

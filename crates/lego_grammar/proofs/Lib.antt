@@ -2,6 +2,8 @@ pub mod Transitions
 pub mod Complete
 pub mod Nesting
 pub mod Sound
+mod SoundEnds
+pub mod SoundSteps
 pub mod Finish
 pub mod Moving
 pub mod Unique
