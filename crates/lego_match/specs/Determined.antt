@@ -9,7 +9,8 @@ use Rattle.lego_match.specs.declared.answer.Candidate.{Candidate}
 use Rattle.lego_match.specs.declared.fault.MatchFault.{MatchFault}
 use Rattle.lego_match.specs.declared.fault.MatchFault.TheVariants.{Budget, TooLarge, Memory}
 
--- the answer that the terms agree, a candidate, or a refusal of their pair, where it holds
+-- The answer holds of the two terms, which stand under so many locals: they agree, or it is their candidate, or a refusal of their
+-- pair with its cause. The refusals for want of steps, room or memory are left out.
 abbrev pub Determines : CoreBodies → FreeHoles → ℕ → Core → Core → Result (Option Candidate) MatchFault → Type 0
 Determines b free locals t u (Ok None) = AgreeIn b t u
 Determines b free locals t u (Ok (Some c)) = IsCandidate b free locals t u c.hole c.body
