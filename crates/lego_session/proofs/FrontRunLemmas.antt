@@ -12,7 +12,7 @@ use Rattle.lego_session.specs.Runs.{Runs, Run, some_refused, ends_early}
 use Rattle.lego_session.specs.Sessions.{Session, empty_session}
 use Rattle.lego_session.specs.Step.{Reply}
 use Rattle.lego_session.proofs.OneAnswerLemmas.{one_answer}
-use Rattle.lego_session.proofs.OneRunLemmas.{IsOfRun, first_of_run, answered, stops_or_not}
+use Rattle.lego_session.proofs.OneRunLemmas.{IsOfRun, distinct, first_of_run, answered, stops_or_not}
 
 -- what is behind a command's `;` does not matter to its first token
 begins_so : (body rest other : List ℕ) → BeginsToken (body ++ 59 ∷ rest) → BeginsToken (body ++ 59 ∷ other)
@@ -50,15 +50,15 @@ module _ {limit : ℕ} {stop : Bool} where
       → {all : List Reply} {other : Names} {last : Session} → Runs limit stop held old (cs ++ more) all other last → (rest : List Reply) × (all ≡ answers ++ rest)
   run_front more s Runs.none {all} q = (all, refl)
   run_front more s (Runs.more {names = left} {cs = cs} a go r) {other = other} {last = last} (Runs.more {mid = mid} {answers = all} b go' q) =
-      let one = one_answer s.none s.printable.now.apart a b in
+      let one = one_answer s.none (distinct s) a b in
       let rest = run_front more (answered s a) r
       (subst (λ m. Runs limit stop left m (cs ++ more) all other last) (sym one.session)
       (subst (λ h. Runs limit stop h mid (cs ++ more) all other last) (sym one.numbering) q)) in
       (rest.0, λ z. sym one.reply z ∷ rest.1 z)
-  run_front more s (Runs.more a go r) (Runs.stops others b stops) = absurd (stops_or_not stop (one_answer s.none s.printable.now.apart a b).reply go stops)
-  run_front more s (Runs.stops others a stops) (Runs.more b go r) = absurd (stops_or_not stop (one_answer s.none s.printable.now.apart b a).reply go stops)
+  run_front more s (Runs.more a go r) (Runs.stops others b stops) = absurd (stops_or_not stop (one_answer s.none (distinct s) a b).reply go stops)
+  run_front more s (Runs.stops others a stops) (Runs.more b go r) = absurd (stops_or_not stop (one_answer s.none (distinct s) b a).reply go stops)
   run_front more s (Runs.stops others a stops) (Runs.stops others' b stops') =
-      let one = one_answer s.none s.printable.now.apart a b in ([], λ z. sym one.reply z ∷ [])
+      let one = one_answer s.none (distinct s) a b in ([], λ z. sym one.reply z ∷ [])
 
   pub answers_front : {place : Place} {bytes all : List ℕ} (more : List ℕ) → all ≡ bytes ++ more → (run : Run limit stop place bytes) (whole : Run limit stop place all)
       → (rest : List Reply) × (whole.answers ≡ run.answers ++ rest)

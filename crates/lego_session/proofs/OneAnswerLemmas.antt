@@ -15,17 +15,17 @@ use Rattle.lego_grammar.specs.Refusals.{GoesOn, IsUnexpected, IsTooDeep, NestedS
 use Rattle.lego_grammar.specs.Written.{WrittenCommand}
 use Rattle.lego_grammar.proofs.Refusals.{one_unexpected, one_too_deep}
 use Rattle.lego_grammar.proofs.Unique.{one_reading, one_nesting}
+use Rattle.lego_kernel.specs.Contexts.{HaveDistinctNames}
 use Rattle.lego_parser.specs.Numbering.{names_behind, AreTooMany, IsFront, max_names}
 use Rattle.lego_session.specs.Answers.{grammar_tokens, HasTokens, IsNumbering, IsCommand, IsNumberedCommand, lex_place, lex_cause, token_text, IsUnread, scope_of, Answers}
 use Rattle.lego_session.specs.Reading.{is_built}
 use Rattle.lego_session.specs.Refusals.{refusal_text}
-use Rattle.lego_session.specs.Sessions.{Session, entries_of}
+use Rattle.lego_session.specs.Sessions.{Session, HasNoLevels, entries_of}
 use Rattle.lego_session.specs.Step.{Reply, Step}
 use Rattle.lego_session.specs.declared.refusal.Cause.{Cause}
 use Rattle.lego_session.specs.declared.refusal.Cause.TheVariants.{Unexpected, TooDeep, LongCommand, NamesFull}
-use Rattle.lego_session.specs.private.Printable.{NamesDiffer}
 use Rattle.lego_session.proofs.OneBindingLemmas.{IsSame}
-use Rattle.lego_session.proofs.OneMoveLemmas.{HasNoLevels, one_split}
+use Rattle.lego_session.proofs.OneMoveLemmas.{one_split}
 use Rattle.lego_session.proofs.OneStepLemmas.{one_step}
 
 -- no nesting of the tokens is above 500
@@ -193,7 +193,7 @@ pub record IsOneAnswer (a b : Reply) (names other : Names) (new last : Session) 
   pub numbering : names ≡ other
   pub session : new ≡ last
 
-pub one_answer : {limit : ℕ} {held : Names} {old : Session} → HasNoLevels old → NamesDiffer (entries_of old) → {c : CommandText} {a b : Reply} {names other : Names} {new last : Session}
+pub one_answer : {limit : ℕ} {held : Names} {old : Session} → HasNoLevels old → HaveDistinctNames (entries_of old) → {c : CommandText} {a b : Reply} {names other : Names} {new last : Session}
     → Answers limit held old c a names new → Answers limit held old c b other last → IsOneAnswer a b names other new last
 one_answer {limit} {old = old} none differ {b = b} {names = names} {last = last} (Answers.step {o = o} n p built s) (Answers.step {o = o'} n' p' built' s') =
     let same = one_step none differ s

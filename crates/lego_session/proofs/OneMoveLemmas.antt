@@ -2,20 +2,15 @@
 use Rattle.std.proofs.Common.{◌≡◌, ℕ, zero, suc, ◌+◌, ◌<◌, ◌≤◌, List, [], ◌∷◌, ◌++◌, length, Some, None, refl, sym, ap, ◌∙◌, subst, arith, length-append}
 use Rattle.std.specs.Prelude.{slice_get}
 use Rattle.std.specs.List.{AllByRecursion}
+use Rattle.lego_kernel.specs.Contexts.{HaveDistinctNames}
 use Rattle.lego_kernel.specs.declared.entry.Entry.{Entry}
 use Rattle.lego_undo.specs.Histories.{Held}
 use Rattle.lego_undo.specs.declared.state.State.{State}
-use Rattle.lego_session.specs.private.Printable.{NamesDiffer}
-use Rattle.lego_session.specs.Sessions.{Session, empty_session, entries_of, Moves, Stays, Undoes}
+use Rattle.lego_session.specs.Sessions.{Session, empty_session, HasNoLevels, Moves, Stays, Undoes}
 use Rattle.lego_session.proofs.SessionLemmas.{all_push, all_front, all_back}
 
--- no level variable stands beside the present state or an old one
 abbrev HasNone : Held → Type 0
 HasNone h = h.levels ≡ 0
-
-pub record HasNoLevels (s : Session) : Type 0 where
-  pub now : s.now.levels ≡ 0
-  pub before : AllByRecursion HasNone s.history
 
 pub empty_none : HasNoLevels empty_session
 empty_none = record { now = refl; before = tt }
@@ -97,9 +92,9 @@ pub stands_at : {es : List Entry} (kept : List Entry) (e : Entry) (behind : List
 stands_at kept e behind is = ap (λ xs. slice_get xs (length kept)) is ∙ there_at kept e behind
 
 -- where names differ, one entry has a name
-pub one_place : {es : List Entry} {n : ℕ} (kept kept' : List Entry) (e e' : Entry) (behind behind' : List Entry) → NamesDiffer es → es ≡ kept ++ e ∷ behind → e.name ≡ Some n
+pub one_place : {es : List Entry} {n : ℕ} (kept kept' : List Entry) (e e' : Entry) (behind behind' : List Entry) → HaveDistinctNames es → es ≡ kept ++ e ∷ behind → e.name ≡ Some n
     → es ≡ kept' ++ e' ∷ behind' → e'.name ≡ Some n → (kept ≡ kept') × (behind ≡ behind')
-one_place kept kept' e e' behind behind' differ is named is' named' =
-    let few = differ (length kept) (length kept') e e' (stands_at kept e behind is) (stands_at kept' e' behind' is') (named ∙ sym named') in
+one_place {n = n} kept kept' e e' behind behind' differ is named is' named' =
+    let few = differ (length kept) (length kept') n (e, stands_at kept e behind is, named) (e', stands_at kept' e' behind' is', named') in
     let parts = one_split kept kept' (e ∷ behind) (e' ∷ behind') few (sym is ∙ is') in
     (parts.0, rest_is parts.1)

@@ -5,27 +5,32 @@ use Rattle.lego_base.specs.declared.place.Place.{Place}
 use Rattle.lego_lexer.specs.Commands.{CommandText, Cuts}
 use Rattle.lego_lexer.proofs.UniqueCuts.{scripts_unique}
 use Rattle.lego_grammar.specs.Grammar.{Names}
+use Rattle.lego_kernel.specs.Contexts.{HaveDistinctNames}
 use Rattle.lego_session.specs.Answers.{Answers}
 use Rattle.lego_session.specs.Laws.{RunsHaveOneOutput}
 use Rattle.lego_session.specs.Runs.{Runs, Run, answers_text, some_refused, ends_early, closing_text, output_of, refuses, is_ending_refused}
-use Rattle.lego_session.specs.Sessions.{Session, empty_session}
+use Rattle.lego_session.specs.Sessions.{Session, empty_session, HasNoLevels, entries_of}
 use Rattle.lego_session.specs.Step.{Reply}
 use Rattle.lego_session.specs.private.Printable.{IsPrintableSession}
 use Rattle.lego_session.proofs.PrintableLemmas.{step_printable, empty_printable}
-use Rattle.lego_session.proofs.OneMoveLemmas.{HasNoLevels, empty_none}
+use Rattle.lego_session.proofs.OneMoveLemmas.{empty_none}
 use Rattle.lego_session.proofs.OneStepLemmas.{step_none}
 use Rattle.lego_session.proofs.OneAnswerLemmas.{IsOneAnswer, one_answer}
 
--- what every session of a run is: its names differ, and no level variable stands beside its states
+-- what every session of a run is
 pub record IsOfRun (s : Session) : Type 0 where
   pub printable : IsPrintableSession s
   pub none : HasNoLevels s
+
+-- its names differ
+pub distinct : {s : Session} → IsOfRun s → HaveDistinctNames (entries_of s)
+distinct h i j name here there = h.printable.now.apart i j here.0 there.0 here.1 there.1 (here.2 ∙ sym there.2)
 
 pub first_of_run : IsOfRun empty_session
 first_of_run = record { printable = empty_printable; none = empty_none }
 
 pub answered : {limit : ℕ} {held names : Names} {old new : Session} {c : CommandText} {a : Reply} → IsOfRun old → Answers limit held old c a names new → IsOfRun new
-answered s (Answers.step n p built step) = record { printable = step_printable step built s.printable; none = step_none s.none s.printable.now.apart step }
+answered s (Answers.step n p built step) = record { printable = step_printable step built s.printable; none = step_none s.none (distinct s) step }
 answered s (Answers.unread n u) = s
 
 -- the same answers, numbering and session
@@ -42,16 +47,16 @@ one_run_of : {limit : ℕ} {stop : Bool} {held names : Names} {old new : Session
     → Runs limit stop held old cs others other last → IsOneRun answers others names other new last
 one_run_of s Runs.none Runs.none = record { replies = refl; numbering = refl; session = refl }
 one_run_of {limit} {stop} s (Runs.more {names = left} {cs = cs} a go r) {other = other} {last = last} (Runs.more {mid = mid'} {answers = others} b go' q) =
-    let one = one_answer s.none s.printable.now.apart a b in
+    let one = one_answer s.none (distinct s) a b in
     let rest = one_run_of (answered s a) r
     (subst (λ m. Runs limit stop left m cs others other last) (sym one.session) (subst (λ h. Runs limit stop h mid' cs others other last) (sym one.numbering) q)) in
     record { replies = λ z. one.reply z ∷ rest.replies z; numbering = rest.numbering; session = rest.session }
 one_run_of {stop = stop} s (Runs.more a go r) (Runs.stops others b stops) =
-    absurd (stops_or_not stop (one_answer s.none s.printable.now.apart a b).reply go stops)
+    absurd (stops_or_not stop (one_answer s.none (distinct s) a b).reply go stops)
 one_run_of {stop = stop} s (Runs.stops others a stops) (Runs.more b go r) =
-    absurd (stops_or_not stop (one_answer s.none s.printable.now.apart b a).reply go stops)
+    absurd (stops_or_not stop (one_answer s.none (distinct s) b a).reply go stops)
 one_run_of s (Runs.stops others a stops) (Runs.stops others' b stops') =
-    let one = one_answer s.none s.printable.now.apart a b in
+    let one = one_answer s.none (distinct s) a b in
     record { replies = λ z. one.reply z ∷ []; numbering = one.numbering; session = one.session }
 
 -- runs over bytes that are the same

@@ -6,19 +6,20 @@ use Rattle.lego_base.specs.declared.place.Place.{Place}
 use Rattle.lego_grammar.specs.Grammar.{Names}
 use Rattle.lego_grammar.specs.Written.{WrittenBinding, WrittenAct, WrittenCommand}
 use Rattle.lego_grammar.specs.Written as written
+use Rattle.lego_kernel.specs.Contexts.{HaveDistinctNames}
 use Rattle.lego_kernel.specs.declared.entry.Entry.{Entry}
+use Rattle.lego_session.specs.Laws.{StepsHaveOneReply}
 use Rattle.lego_session.specs.Refusals.{Scope, refusal_text}
-use Rattle.lego_session.specs.Sessions.{Session, entries_of, Moves, Undoes}
+use Rattle.lego_session.specs.Sessions.{Session, HasNoLevels, entries_of, Moves, Undoes}
 use Rattle.lego_session.specs.Step.{Reply, Accepts, IsRefused, Step}
 use Rattle.lego_session.specs.Texts.{entry_lines}
 use Rattle.lego_session.specs.commands.Bindings.{AddsBindings}
 use Rattle.lego_session.specs.commands.Forget.{Forgets}
 use Rattle.lego_session.specs.commands.Undo.{IsTooFar}
 use Rattle.lego_session.specs.declared.refusal.Cause.{Cause}
-use Rattle.lego_session.specs.private.Printable.{IsPrintable, NamesDiffer, IsPrintableSession}
 use Rattle.lego_session.proofs.PrintableLemmas.{absent}
 use Rattle.lego_session.proofs.OneBindingLemmas.{IsSame, one_list, list_not_refused, one_list_refusal}
-use Rattle.lego_session.proofs.OneMoveLemmas.{HasNoLevels, one_move, move_none, one_stay, stay_none, one_undo, undo_none, stands_at, one_place}
+use Rattle.lego_session.proofs.OneMoveLemmas.{one_move, move_none, one_stay, stay_none, one_undo, undo_none, stands_at, one_place}
 
 -- the same answer of an accepted command
 record AreOne (text last : List ℕ) (new other : Session) : Type 0 where
@@ -35,7 +36,7 @@ too_far far Undoes.nothing = omega (arith, far.more)
 too_far far (Undoes.steps {kept = kept} dropped {back = back} is state_is levels history_is) =
     omega (arith, far.more, ap length is, length-append kept (back ∷ dropped))
 
-module _ (names : Names) (limit : ℕ) {old : Session} (none : HasNoLevels old) (differ : NamesDiffer (entries_of old)) where
+module _ (names : Names) (limit : ℕ) {old : Session} (none : HasNoLevels old) (differ : HaveDistinctNames (entries_of old)) where
   one_addition : {new other : Session} {bs : List WrittenBinding} {text last : List ℕ} → AddsBindings names old bs text new → AddsBindings names old bs last other → AreOne text last new other
   one_addition {other = other} p q =
       let same : p.context ≡ q.context = one_list p.binds q.binds in
@@ -90,7 +91,7 @@ pub record IsOneStep (a b : Reply) (new other : Session) : Type 0 where
   pub reply : a ≡ b
   pub session : new ≡ other
 
-pub one_step : {names : Names} {limit : ℕ} {old : Session} → HasNoLevels old → NamesDiffer (entries_of old) → {o : WrittenCommand} {a b : Reply} {new other : Session}
+pub one_step : {names : Names} {limit : ℕ} {old : Session} → HasNoLevels old → HaveDistinctNames (entries_of old) → {o : WrittenCommand} {a b : Reply} {new other : Session}
     → Step names limit old o a new → Step names limit old o b other → IsOneStep a b new other
 one_step {names} {limit} none differ {o} (Step.accepted p) (Step.accepted q) =
     let same = one_acceptance names limit none differ o.act p q in
@@ -105,7 +106,10 @@ one_step {names} {limit} none differ {o} (Step.refused p c scope r) (Step.refuse
     }
 
 -- a step leaves no level variable beside a session
-pub step_none : {names : Names} {limit : ℕ} {old : Session} → HasNoLevels old → NamesDiffer (entries_of old) → {o : WrittenCommand} {a : Reply} {new : Session}
+pub step_none : {names : Names} {limit : ℕ} {old : Session} → HasNoLevels old → HaveDistinctNames (entries_of old) → {o : WrittenCommand} {a : Reply} {new : Session}
     → Step names limit old o a new → HasNoLevels new
 step_none {names} {limit} none differ {o} (Step.accepted {text = text} p) = acceptance_none names limit none differ text o.act p
 step_none none differ (Step.refused p c scope r) = none
+
+pub steps_have_one_reply : StepsHaveOneReply
+steps_have_one_reply names limit old new last o one other differ none p q = let same = one_step none differ p q in (same.reply, same.session)

@@ -1,10 +1,22 @@
 -- Laws of the definitions: what the bytes of a script and the option words determine.
 use Rattle.std.specs.Prelude.{◌≡◌, ℕ, Bool, List, ◌++◌, Option, Some}
 use Rattle.lego_base.specs.declared.place.Place.{Place}
+use Rattle.lego_grammar.specs.Grammar.{Names}
+use Rattle.lego_grammar.specs.Written.{WrittenCommand}
+use Rattle.lego_kernel.specs.Contexts.{HaveDistinctNames}
 use Rattle.lego_session.specs.Outcomes.{Outcome}
 use Rattle.lego_session.specs.Runs.{Run, output_of, refuses}
+use Rattle.lego_session.specs.Sessions.{Session, HasNoLevels, entries_of}
+use Rattle.lego_session.specs.Step.{Reply, Step}
 use Rattle.lego_session.specs.declared.status.Status.{Status}
 use Rattle.lego_session.specs.declared.status.Status.TheVariants.{ReadFault, WriteFault, Memory}
+
+-- in a session whose names differ, without level variables, a command has one reply, and leaves one session
+abbrev pub StepsHaveOneReply : Type 0
+StepsHaveOneReply =
+    (names : Names) (limit : ℕ) (old new last : Session) (o : WrittenCommand) (one other : Reply)
+    → HaveDistinctNames (entries_of old) → HasNoLevels old → Step names limit old o one new → Step names limit old o other last
+    → (one ≡ other) × (new ≡ last)
 
 -- over the same bytes, which begin at the same place, runs have one output, and refuse something all or none
 abbrev pub RunsHaveOneOutput : Type 0

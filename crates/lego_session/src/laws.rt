@@ -1,5 +1,11 @@
 //! Laws of runs, each the contract of a function that does nothing.
-ghost use Rattle.lego_session.specs.Laws.{RunsHaveOneOutput, OutcomesAreOne, OutcomesAreFronts};
+ghost use Rattle.lego_session.specs.Laws.{StepsHaveOneReply, RunsHaveOneOutput, OutcomesAreOne, OutcomesAreFronts};
+
+/// In a session whose names differ, a command has one reply and leaves one session, want of
+/// memory aside.
+pub fn steps_have_one_reply()
+    ensures { StepsHaveOneReply }
+{}
 
 /// The bytes of a script, the options and the place where the bytes begin determine the output
 /// of a run, want of memory aside.

@@ -18,7 +18,7 @@ mod session;
 mod status;
 mod text;
 
-pub use laws::{outcomes_are_one, runs_have_one_output};
+pub use laws::{outcomes_are_one, runs_have_one_output, steps_have_one_reply};
 pub use reading::is_built;
 pub use refusal::{Cause, Refusal};
 pub use running::run;

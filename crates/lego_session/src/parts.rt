@@ -1,5 +1,4 @@
 //! The parts of a session, which commands change.
-ghost use Rattle.std.specs.Prelude.{◌≡◌};
 ghost use Rattle.lego_session.specs.private.Refusals.{IsRefusalOf};
 
 use crate::refusal::{Cause, Refusal};
