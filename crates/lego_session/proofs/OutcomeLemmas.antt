@@ -22,7 +22,6 @@ use Rattle.lego_session.specs.Runs.{Run, Runs, answers_text, closing_text, outpu
 use Rattle.lego_session.specs.declared.progress.Progress.{Progress}
 use Rattle.lego_session.specs.declared.status.Status.{Status}
 use Rattle.lego_session.specs.declared.status.Status.TheVariants.{Accepted, Refused, Usage, ReadFault, WriteFault, Memory, OpenProof, TooLong}
-use Rattle.lego_session.proofs.FrontRunLemmas.{stopped_more}
 use Rattle.lego_session.proofs.GatheredLemmas.{past_behind}
 use Rattle.lego_session.proofs.RunLemmas.{reached_first, run_with, run_here, text-push}
 
@@ -203,6 +202,35 @@ module _ (options : Options) (p : Progress) (l l' t t' : Option (List ℕ)) (u :
 consumed_front : (bytes read : List ℕ) (l' : Option (List ℕ)) → Consumes (Some bytes) l' read → (more : List ℕ) × (bytes ≡ read ++ more) × (l' ≡ Some more)
 consumed_front bytes read None k = absurd k
 consumed_front bytes read (Some more) k = (more, k, refl)
+
+-- what stands behind the command at which `--stop` ended a run doesn't matter
+runs_stopped : {limit : ℕ} {stop : Bool} {held names : Names} {old new : Session} {cs : List CommandText} {answers : List Reply} (others : List CommandText)
+    → Runs limit stop held old cs answers names new → ends_early stop answers ≡ true → Runs limit stop held old (cs ++ others) answers names new
+runs_stopped {stop = true} others Runs.none e = absurd (false≢true e)
+runs_stopped {stop = false} others Runs.none e = absurd (false≢true e)
+runs_stopped {stop = stop} others (Runs.more {a = a} {answers = answers} h k r) e = Runs.more h k (runs_stopped others r (rest_early stop a.refused (some_refused answers) k e))
+  where
+    rest_early : (stop r s : Bool) → (stop && r) ≡ false → (stop && (r || s)) ≡ true → (stop && s) ≡ true
+    rest_early true true s k e = absurd (false≢true (sym k))
+    rest_early true false s k e = e
+    rest_early false r s k e = e
+runs_stopped others (Runs.stops more h k) e = Runs.stops (more ++ others) h k
+
+pub stopped_more : {limit : ℕ} {stop : Bool} (bytes : List ℕ) (run : Run limit stop first_place bytes) → HasEnded first_place bytes run.commands → ends_early stop run.answers ≡ true
+    → (more : List ℕ) → (other : Run limit stop first_place (bytes ++ more)) × (other.answers ≡ run.answers)
+stopped_more bytes run ended early more =
+    let behind_it = scripts_cut (behind first_place bytes) more in (
+      record {
+        commands = run.commands ++ behind_it.commands;
+        ending = behind_it.ending;
+        names = run.names;
+        answers = run.answers;
+        session = run.session;
+        cut = ended more behind_it.commands behind_it.ending behind_it.cuts;
+        runs = runs_stopped behind_it.commands run.runs early;
+      },
+      refl,
+    )
 
 module _ (limit : ℕ) (stop : Bool) (l l' t t' : Option (List ℕ)) (a : IsAcceptable limit stop l) where
   told : (read : List ℕ) → Consumes l l' read → (more : List ℕ) × (a.bytes ≡ read ++ more) × (l' ≡ Some more)

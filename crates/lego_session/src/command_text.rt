@@ -4,6 +4,7 @@ ghost use Rattle.lego_grammar.specs.Surface.{written_command};
 ghost use Rattle.lego_grammar.specs.WrittenForm.{IsWrittenForm};
 ghost use Rattle.lego_lexer.specs.Commands.{IsCommandText};
 ghost use Rattle.lego_lexer.specs.Tokens.{placed};
+ghost use Rattle.lego_lexer.specs.declared.token.Token.{Token as PlacedToken};
 ghost use Rattle.lego_session.specs.Answers.{HasTokens, IsNumberedCommand, lex_place, lex_cause};
 ghost use Rattle.lego_session.specs.private.Unread.{IsUnreadBy, StandsAt, FirstStandElsewhere, HasItsToken, IsUnexpectedToken, IsNotParsed};
 ghost use Rattle.lego_session.specs.Reading.{is_built};

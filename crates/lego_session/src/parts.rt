@@ -1,4 +1,5 @@
 //! The parts of a session, which commands change.
+ghost use Rattle.std.specs.Prelude.{◌≡◌};
 ghost use Rattle.lego_session.specs.private.Refusals.{IsRefusalOf};
 
 use crate::refusal::{Cause, Refusal};

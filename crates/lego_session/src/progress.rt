@@ -1,5 +1,5 @@
 //! The progress of a run: each command is answered when its end was read.
-ghost use Rattle.std.specs.Prelude.{◌≡◌, ◌≤◌, ◌+◌, ◌++◌, ◌&&◌, [], ℕ, List as Items, length, IfSome, IfOk, IfErr, OnOk};
+ghost use Rattle.std.specs.Prelude.{◌≡◌, ◌<◌, ◌≤◌, ◌+◌, ◌++◌, ◌&&◌, [], ℕ, List as Items, length, IfSome, IfOk, IfErr, OnOk};
 ghost use Rattle.lego_lexer.specs.Commands.{IsCommandText, Cuts};
 ghost use Rattle.lego_session.specs.Names.{IsKnownSession};
 ghost use Rattle.lego_session.specs.Answers.{Answers};

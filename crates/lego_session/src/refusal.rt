@@ -1,7 +1,7 @@
 //! Refusals of commands.
 
 ghost use Rattle.std.specs.Prelude.{◌≡◌, []};
-ghost use Rattle.lego_session.specs.Refusals.{heading};
+ghost use Rattle.lego_session.specs.Refusals.{Heading, heading};
 ghost use Rattle.lego_session.specs.private.Refusals.{IsRefusalOf};
 
 use crate::refusal_text::refusal_text;

@@ -6,6 +6,7 @@ ghost use Rattle.lego_base.specs.Causes.{HasCause, Rose};
 ghost use Rattle.lego_words.specs.Words.{AreWritten, IsUsage, texts};
 ghost use Rattle.lego_words.specs.declared.options.Options.{Options as Asked};
 ghost use Rattle.lego_session.specs.Outcomes.{Outcome, UsageOutcome, usage_line, IsAcceptable};
+ghost use Rattle.lego_session.specs.private.Progress.{IsCounted};
 
 use crate::gathered::Gathered;
 use crate::progress::Progress;

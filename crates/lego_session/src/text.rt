@@ -1,5 +1,6 @@
 //! The texts of types, entries and the development. Each call adds to a text.
-ghost use Rattle.std.specs.Prelude.{◌≡◌, ◌++◌, if◌then◌else◌, codes, decimal, [], drop, OnOk, IfOk};
+ghost use Rattle.std.specs.Prelude.{◌≡◌, ◌++◌, if◌then◌else◌, codes, decimal, [], take, drop, OnOk, IfOk};
+ghost use Rattle.std.specs.List.{flat_map};
 ghost use Rattle.lego_session.specs.Names.{name_text};
 ghost use Rattle.lego_session.specs.Texts.{entry_name, constant_text, type_text, entry_text, entry_lines, entry_command, development_text};
 
