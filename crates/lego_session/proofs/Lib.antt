@@ -26,3 +26,12 @@ pub mod RunLemmas
 pub mod ClosingLemmas
 pub mod ProgressLemmas
 pub mod OutcomeLemmas
+pub mod OneTypeLemmas
+pub mod OneBindingLemmas
+pub mod OneMoveLemmas
+pub mod OneStepLemmas
+pub mod OneAnswerLemmas
+pub mod OneRunLemmas
+pub mod FrontRunLemmas
+pub mod OneOutcomeLemmas
+pub mod FrontOutcomeLemmas

@@ -10,4 +10,5 @@ pub mod Headline
 pub mod Runs
 pub mod Statuses
 pub mod Outcomes
+pub mod Laws
 pub mod private

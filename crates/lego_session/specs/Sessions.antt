@@ -18,6 +18,11 @@ empty_session = record { now = record { state = record { context = [] }; levels 
 abbrev pub entries_of : Session → List Entry
 entries_of s = s.now.state.context
 
+-- no level variable stands beside the present state or an old one
+pub record HasNoLevels (s : Session) : Type 0 where
+  pub now : s.now.levels ≡ 0
+  pub before : AllByRecursion (λ h. h.levels ≡ 0) s.history
+
 -- A command that counts for Undo: the old state goes to the history's end, with a number at most that beside it. So many
 -- level variables may be new.
 pub record Moves (old : Session) (state : State) (allowed : ℕ) (new : Session) : Type 0 where

@@ -6,6 +6,7 @@ mod closing;
 mod command_text;
 mod commands;
 mod gathered;
+mod laws;
 mod parts;
 mod pending;
 mod progress;
@@ -17,6 +18,7 @@ mod session;
 mod status;
 mod text;
 
+pub use laws::{outcomes_are_one, runs_have_one_output, steps_have_one_reply};
 pub use reading::is_built;
 pub use refusal::{Cause, Refusal};
 pub use running::run;
