@@ -13,9 +13,9 @@ use Rattle.lego_laws.specs.Ranges.{levels_bound}
 use Rattle.lego_laws.specs.Valid.{AreValid, BodiesFit}
 use Rattle.lego_laws.specs.Judgement.{Has}
 use Rattle.lego_laws.specs.Principal.{entries_bound}
-use Rattle.lego_laws.proofs.HeldWithin.{held_within}
-use Rattle.lego_laws.proofs.TypingLaws.{judgements_stand_in_valid_lists}
-use Rattle.lego_laws.proofs.Shaped.{typed_cores_have_wanted_heads}
+use Rattle.lego_laws.proofs.lemmas.principal.HeldWithin.{held_within}
+use Rattle.lego_laws.proofs.lemmas.typing.TypingLaws.{judgements_stand_in_valid_lists}
+use Rattle.lego_laws.proofs.lemmas.principal.Shaped.{typed_cores_have_wanted_heads}
 use Rattle.lego_kernel.specs.Assuming.{IsTypeAlways, IsNoType, NoTypeIn, bare, below}
 use Rattle.lego_kernel.specs.Entries.{laws_entries}
 use Rattle.lego_kernel.specs.declared.entry.Entry.{Entry as Item}
