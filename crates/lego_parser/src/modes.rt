@@ -1,4 +1,4 @@
-//! The parser's machine: what may come next, and a stack of what is awaited.
+//! What may come next, and what is awaited.
 ghost use Rattle.std.specs.Prelude.{map};
 ghost use Rattle.lego_parser.specs.private.Trees.{built_binding};
 ghost use Rattle.lego_grammar.specs.private.Machine.{Between as IsBetween};
@@ -16,12 +16,25 @@ pub(crate) struct Names {
     pub names: Vec<u32>,
 }
 
+/// A name with its place.
+#[derive(Drop, Clone, Copy)]
+pub(crate) struct NameAt {
+    pub place: Place,
+    pub name: u32,
+}
+
+/// A context command inside a binding, whose `[` stands at the place, behind these bindings.
+#[derive(Drop)]
+pub(crate) struct OpenContext {
+    pub place: Place,
+    pub bindings: Vec<Binding>,
+}
+
 /// Where names are bound.
 #[derive(Drop)]
 pub(crate) enum Site {
     Term(Kind),
-    /// In a context command, behind these bindings, at the `[` that stands at the place.
-    Context(Place, Vec<Binding>),
+    Context(OpenContext),
 }
 
 /// What a whole term of a command is for.
@@ -67,9 +80,9 @@ pub(crate) enum Frame {
     /// The domain of names.
     Domain(Site, Mark, Names),
     /// The value of a name.
-    Value(Site, Place, u32),
+    Value(Site, NameAt),
     /// The type of a definition of a context command.
-    Stated(Place, Vec<Binding>, Place, u32, Surface),
+    Stated(OpenContext, NameAt, Surface),
     /// The end of the command's term.
     Whole(Use),
 }
@@ -107,7 +120,7 @@ pub(crate) enum Mode {
     /// A binding of a context command, or its end.
     Between(Vec<Binding>),
     BehindGoal,
-    BehindGoalName(Place, u32),
+    BehindGoalName(NameAt),
     WantIntros(Names),
     WantNext,
     WantUndo,
