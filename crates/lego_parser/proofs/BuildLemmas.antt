@@ -135,19 +135,17 @@ module _ (names : Names) (bytes : List ℕ) (tokens : List Token) (i : ℕ) (d :
         let at : drop i items ≡ item_of bytes next ∷ drop (suc i) items = drop-cons items i (item_of bytes d) inside ∙ ap (λ t. t ∷ drop (suc i) items) (item_at bytes tokens i d lt (item_of bytes d)) in
         stepped names items i (item_of bytes next) k m fs distinct at is left
 
-    moved : (b : Bool) → b ≡ true → move b next.kind next.place k (state m fs) ≡ Some (state next_step.mode next_step.frames)
-    moved b build =
-        subst (λ a. move a next.kind next.place k (state m fs) ≡ Some (state next_step.mode next_step.frames)) (sym build)
-        (subst (λ c. move true c next.place k (state m fs) ≡ Some (state next_step.mode next_step.frames)) (class_of bytes next.kind next.from next.to) next_step.moves)
+    moved : move true next.kind next.place k (state m fs) ≡ Some (state next_step.mode next_step.frames)
+    moved = subst (λ c. move true c next.place k (state m fs) ≡ Some (state next_step.mode next_step.frames)) (class_of bytes next.kind next.from next.to) next_step.moves
 
     -- there is one
-    pub has_step : (b : Bool) → b ≡ true → move b next.kind next.place k (state m fs) ≡ None → ⊥
-    has_step b build none = some_none (sym (moved b build) ∙ none)
+    pub has_step : move true next.kind next.place k (state m fs) ≡ None → ⊥
+    has_step none = some_none (sym moved ∙ none)
 
     -- the rest is left behind it
-    pub left_more : (b : Bool) → b ≡ true → {m' : Mode} {fs' : List Frame} → move b next.kind next.place k (state m fs) ≡ Some (state m' fs') → Left names items (i + 1) m' fs'
-    left_more b build {m'} {fs'} there =
-        let both : state next_step.mode next_step.frames ≡ state m' fs' = the (sym (moved b build) ∙ there) in
+    pub left_more : {m' : Mode} {fs' : List Frame} → move true next.kind next.place k (state m fs) ≡ Some (state m' fs') → Left names items (i + 1) m' fs'
+    left_more {m'} {fs'} there =
+        let both : state next_step.mode next_step.frames ≡ state m' fs' = the (sym moved ∙ there) in
         let one : suc i ≡ i + 1 = omega arith in
         subst (λ (z : State). Left names items (i + 1) z.mode z.frames) both (subst (λ j. Left names items j next_step.mode next_step.frames) one next_step.left)
 

@@ -45,16 +45,15 @@ deep_none tokens start bytes =
 
 module _ (tokens : List Token) (m : Mode) (i : ℕ) where
   -- one token more
-  pub goes_on : (t : Token) (st : State) (b : Bool) (o : Option State) → i < length tokens → b ≡ false → GoesTo tokens m i (Some st)
-      → move b (get_or tokens i t).kind (get_or tokens i t).place 0 st ≡ o → GoesTo tokens m (i + 1) o
-  goes_on t st b o lt shape there gives bytes =
+  pub goes_on : (t : Token) (st : State) (o : Option State) → i < length tokens → GoesTo tokens m i (Some st)
+      → move false (get_or tokens i t).kind (get_or tokens i t).place 0 st ≡ o → GoesTo tokens m (i + 1) o
+  goes_on t st o lt there gives bytes =
       let items = map (item_of bytes) tokens in
       let now = get_or tokens i t in
       let within : i < length items = omega (arith, lt, long_as bytes tokens) in
       let here : slice_get items i ≡ Some (item_of bytes now) = slice_get-get_or items i (item_of bytes now) within ∙ ap (λ x. Some x) (item_at bytes tokens i t lt (item_of bytes now)) in
       let kind = ap (λ (k : TokenKind). move false k now.place 0 st) (class_of bytes now) in
-      let building = ap (λ (b : Bool). move b now.kind now.place 0 st) (sym shape) in
-      rw add-one (goes_step items i (item_of bytes now) (Some (state m [])) here (there bytes) ∙ (kind ∙ (building ∙ gives)))
+      rw add-one (goes_step items i (item_of bytes now) (Some (state m [])) here (there bytes) ∙ (kind ∙ gives))
 
   -- the next state is within the limit, or above it
   pub no_deeper : (st : State) (deep : Option ℕ) → GoesTo tokens m (i + 1) (Some st) → level st ≤ 500

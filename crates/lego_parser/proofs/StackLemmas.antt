@@ -4,7 +4,7 @@ use Rattle.lego_grammar.specs.Written.{Written}
 use Rattle.lego_grammar.specs.private.Machine.{Frame, sums, pending, wrapped, summed, closed}
 use Rattle.lego_parser.specs.private.Frames.{frame_of}
 use Rattle.lego_parser.specs.private.Stack.{Stops, Takes, Ends}
-use Rattle.lego_parser.specs.declared.machine.Frame.{Frame as Taken}
+use Rattle.lego_parser.specs.declared.modes.Frame.{Frame as Taken}
 use Rattle.lego_parser.proofs.FrameLemmas.{summed_more, closed_more}
 
 summed_end : (b : Bool) (v : Written) (fs : List Frame) → Stops sums fs → summed b v fs ≡ (v, fs)

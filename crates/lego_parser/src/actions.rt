@@ -9,20 +9,20 @@ ghost use Rattle.lego_grammar.specs.private.Machine.{WantNext as WantNextMode, W
 ghost use Rattle.lego_parser.specs.private.Frames.{mode_of};
 ghost use Rattle.lego_parser.specs.private.Stack.{Acts};
 
-use crate::machine::{Frame, Mode, Names, Site, Use};
-use crate::stack::Stack;
+use crate::machine::Machine;
+use crate::modes::{Frame, Mode, NameAt, Names, OpenContext, Site, Use};
 use lego_base::Place;
 use lego_grammar::{Act, Binding, Surface};
 use lego_lexer::{Symbol, TokenKind, Word};
 use lego_term::List;
 use std::alloc::AllocError;
 
-impl Stack {
+impl<const BUILDING: bool> Machine<BUILDING> {
     ghost use Rattle.std.specs.Prelude.{◌∷◌, ◌++◌, false, None, IfOk};
     ghost use Rattle.lego_grammar.specs.Written.{Named};
     ghost use Rattle.lego_grammar.specs.private.Machine.{Whole as WholeFrame, ToGoal, BehindGoal as BehindGoalMode, BehindGoalName as BehindGoalNameMode, WantIntros as WantIntrosMode, Want as WantMode, state, moves as goes, level_closes, goal_numbered, names_one, operand as operand_so, behind as behind_so, starts as starts_so, acts as acts_so, between as between_so, move as move_so, keep as keeps};
     ghost use Rattle.lego_parser.specs.private.Frames.{site_of, use_of};
-    ghost use Rattle.lego_parser.specs.private.Stack.{stack, Gives};
+    ghost use Rattle.lego_parser.specs.private.Stack.{stack, Moves};
 
     /// An operand that begins a whole term.
     fn whole_operand(
@@ -32,18 +32,16 @@ impl Stack {
         place: Place,
         name: u32,
     ) -> Result<Option<Mode>, AllocError>
-        ensures moves { IfOk result (λ mode. Gives (operand_so self.old.building kind place name (WholeFrame (use_of purpose) ∷ stack self.old)) mode self.new) }
-        ensures building { self.new.building ≡ self.old.building }
+        ensures { Moves (operand_so BUILDING kind place name (WholeFrame (use_of purpose) ∷ stack self.old)) result self.new }
     {
-        self.push(Frame::Whole(purpose))?;
+        self.stack.push(Frame::Whole(purpose))?;
         self.operand(kind, place, name)
     }
 
     fn whole(&mut self, purpose: Use) -> Result<Option<Mode>, AllocError>
-        ensures moves { IfOk result (λ mode. Gives (goes WantMode (WholeFrame (use_of purpose) ∷ stack self.old)) mode self.new) }
-        ensures building { self.new.building ≡ self.old.building }
+        ensures { Moves (goes WantMode (WholeFrame (use_of purpose) ∷ stack self.old)) result self.new }
     {
-        self.push(Frame::Whole(purpose))?;
+        self.stack.push(Frame::Whole(purpose))?;
         Ok(Some(Mode::Want))
     }
 
@@ -54,8 +52,7 @@ impl Stack {
         place: Place,
         name: u32,
     ) -> Result<Option<Mode>, AllocError>
-        ensures moves { IfOk result (λ mode. Gives (starts_so self.old.building kind place name (stack self.old)) mode self.new) }
-        ensures building { self.new.building ≡ self.old.building }
+        ensures { Moves (starts_so BUILDING kind place name (stack self.old)) result self.new }
     {
         match kind {
             TokenKind::Word(Word::Goal) => Ok(Some(Mode::BehindGoal)),
@@ -86,11 +83,10 @@ impl Stack {
         place: Place,
         name: u32,
     ) -> Result<Option<Mode>, AllocError>
-        ensures moves { IfOk result (λ mode. Gives (acts_so self.old.building kind place name BehindGoalMode (stack self.old)) mode self.new) }
-        ensures building { self.new.building ≡ self.old.building }
+        ensures { Moves (acts_so BUILDING kind place name BehindGoalMode (stack self.old)) result self.new }
     {
         match kind {
-            TokenKind::Name => Ok(Some(Mode::BehindGoalName(place, name))),
+            TokenKind::Name => Ok(Some(Mode::BehindGoalName(NameAt { place, name }))),
             _ => self.whole_operand(Use::Goal(None), kind, place, name),
         }
     }
@@ -101,15 +97,13 @@ impl Stack {
         kind: TokenKind,
         place: Place,
         name: u32,
-        at: Place,
-        goal: u32,
+        goal: NameAt,
     ) -> Result<Option<Mode>, AllocError>
-        ensures moves { IfOk result (λ mode. Gives (acts_so self.old.building kind place name (BehindGoalNameMode at goal) (stack self.old)) mode self.new) }
-        ensures building { self.new.building ≡ self.old.building }
+        ensures { Moves (acts_so BUILDING kind place name (BehindGoalNameMode goal.place goal.name) (stack self.old)) result self.new }
     {
         match kind {
-            TokenKind::Symbol(Symbol::Colon) => self.whole(Use::Goal(Some(goal))),
-            _ => self.goal_goes_on(kind, place, name, at, goal),
+            TokenKind::Symbol(Symbol::Colon) => self.whole(Use::Goal(Some(goal.name))),
+            _ => self.goal_goes_on(kind, place, name, goal),
         }
     }
 
@@ -118,18 +112,16 @@ impl Stack {
         kind: TokenKind,
         place: Place,
         name: u32,
-        at: Place,
-        goal: u32,
+        goal: NameAt,
     ) -> Result<Option<Mode>, AllocError>
-        ensures moves { IfOk result (λ mode. Gives (behind_so self.old.building kind place name false (keeps self.old.building (Named at goal)) (WholeFrame (ToGoal None) ∷ stack self.old)) mode self.new) }
-        ensures building { self.new.building ≡ self.old.building }
+        ensures { Moves (behind_so BUILDING kind place name false (keeps BUILDING (Named goal.place goal.name)) (WholeFrame (ToGoal None) ∷ stack self.old)) result self.new }
     {
         let tree = self.keep(Surface::Name {
-            place: at,
-            name: goal,
+            place: goal.place,
+            name: goal.name,
         });
         let post = self.post(tree);
-        self.push(Frame::Whole(Use::Goal(None)))?;
+        self.stack.push(Frame::Whole(Use::Goal(None)))?;
         self.behind(kind, place, name, false, post)
     }
 
@@ -140,8 +132,7 @@ impl Stack {
         name: u32,
         names: Names,
     ) -> Result<Option<Mode>, AllocError>
-        ensures moves { IfOk result (λ mode. Gives (acts_so self.old.building kind place name (WantIntrosMode names.places.items names.names.items) (stack self.old)) mode self.new) }
-        ensures building { self.new.building ≡ self.old.building }
+        ensures { Moves (acts_so BUILDING kind place name (WantIntrosMode names.places.items names.names.items) (stack self.old)) result self.new }
     {
         match kind {
             TokenKind::Name => {
@@ -172,12 +163,11 @@ impl Stack {
         place: Place,
         bindings: Vec<Binding>,
     ) -> Result<Option<Mode>, AllocError>
-        ensures moves { IfOk result (λ mode. Gives (between_so kind place (map built_binding bindings.items) (stack self.old)) mode self.new) }
-        ensures building { self.new.building ≡ self.old.building }
+        ensures { Moves (between_so kind place (map built_binding bindings.items) (stack self.old)) result self.new }
     {
         match kind {
             TokenKind::Symbol(Symbol::OpenSquare) => Ok(Some(Mode::WantName(
-                Site::Context(place, bindings),
+                Site::Context(OpenContext { place, bindings }),
                 self.no_names(),
             ))),
             TokenKind::Symbol(Symbol::Semicolon) => Ok(finished(bindings)),
@@ -194,8 +184,7 @@ impl Stack {
         site: Site,
         names: Names,
     ) -> Result<Option<Mode>, AllocError>
-        ensures moves { IfOk result (λ mode. Gives (names_one kind place name (site_of site) names.places.items names.names.items (stack self.old)) mode self.new) }
-        ensures building { self.new.building ≡ self.old.building }
+        ensures { Moves (names_one kind place name (site_of site) names.places.items names.names.items (stack self.old)) result self.new }
     {
         match kind {
             TokenKind::Name => {
@@ -215,8 +204,7 @@ impl Stack {
         place: Place,
         name: u32,
     ) -> Result<Option<Mode>, AllocError>
-        ensures moves { IfOk result (λ next. Gives (move_so self.old.building kind place name (state (mode_of mode) (stack self.old))) next self.new) }
-        ensures building { self.new.building ≡ self.old.building }
+        ensures { Moves (move_so BUILDING kind place name (state (mode_of mode) (stack self.old))) result self.new }
     {
         match mode {
             Mode::Start => self.starts(kind, place, name),
@@ -230,7 +218,7 @@ impl Stack {
             Mode::BehindName(site, names) => self.behind_name(kind, site, names),
             Mode::Between(bindings) => self.between(kind, place, bindings),
             Mode::BehindGoal => self.behind_goal(kind, place, name),
-            Mode::BehindGoalName(at, goal) => self.behind_goal_name(kind, place, name, at, goal),
+            Mode::BehindGoalName(goal) => self.behind_goal_name(kind, place, name, goal),
             Mode::WantIntros(names) => self.intros(kind, place, name, names),
             Mode::WantNext => Ok(next(kind)),
             Mode::WantUndo => Ok(undo(kind)),
@@ -243,8 +231,7 @@ impl Stack {
     }
 
     fn close_level(&mut self, kind: TokenKind, level: u32) -> Result<Option<Mode>, AllocError>
-        ensures moves { IfOk result (λ mode. Gives (level_closes self.old.building kind level (stack self.old)) mode self.new) }
-        ensures building { self.new.building ≡ self.old.building }
+        ensures { Moves (level_closes BUILDING kind level (stack self.old)) result self.new }
     {
         match kind {
             TokenKind::Symbol(Symbol::CloseParen) => {
@@ -256,8 +243,7 @@ impl Stack {
     }
 
     fn goal_number(&mut self, kind: TokenKind, at: Place) -> Result<Option<Mode>, AllocError>
-        ensures moves { IfOk result (λ mode. Gives (goal_numbered self.old.building kind at (stack self.old)) mode self.new) }
-        ensures building { self.new.building ≡ self.old.building }
+        ensures { Moves (goal_numbered BUILDING kind at (stack self.old)) result self.new }
     {
         match kind {
             TokenKind::Number(number) => {

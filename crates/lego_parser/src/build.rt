@@ -10,9 +10,9 @@ ghost use Rattle.lego_parser.specs.Numbering.{HasNameRange, NamesHaveRanges};
 ghost use Rattle.lego_parser.specs.private.Interning.{HasNumber, AreNumbered, IsNumberOf};
 ghost use Rattle.lego_parser.specs.private.Scanning.{mode_at, IsWhole, HasEnded};
 
-use crate::machine::Mode;
+use crate::machine::Machine;
+use crate::modes::Mode;
 use crate::scan::Start;
-use crate::stack::Stack;
 use lego_base::Names;
 use lego_grammar::Act;
 use lego_lexer::{Token, TokenKind};
@@ -34,11 +34,11 @@ pub(crate) fn build(
 {
     // the names differ, so a text has one number
     let _held = names.len();
-    let mut stack = Stack::new(alloc, true);
+    let mut machine = Machine::<true>::new(alloc);
     let mut mode = start.mode(alloc);
     for token in tokens {
         let number = number_of(*token, text, names);
-        let Some(next) = stack.step(mode, token.kind, token.place, number)? else {
+        let Some(next) = machine.step(mode, token.kind, token.place, number)? else {
             unreachable!()
         };
         mode = next;

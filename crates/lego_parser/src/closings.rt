@@ -1,7 +1,6 @@
 //! The closing tokens: what a whole term becomes above the frame that awaited it.
-use crate::machine::{Frame, Mode, Names, Site, Use};
-use crate::stack::Stack;
-use lego_base::Place;
+use crate::machine::Machine;
+use crate::modes::{Frame, Mode, NameAt, Names, OpenContext, Site, Use};
 use lego_grammar::{Act, Binding, BindingKind, Kind, Surface};
 use lego_lexer::Symbol;
 use lego_term::{List, Mark};
@@ -29,13 +28,15 @@ impl Use {
     }
 }
 
-impl Stack {
+impl<const BUILDING: bool> Machine<BUILDING> {
     ghost use Rattle.std.specs.Prelude.{◌≡◌, [], ◌∷◌, ◌++◌, map, IfOk};
     ghost use Rattle.lego_lexer.specs.declared.token.TokenKind.TheVariants.{Symbol as ASymbol};
     ghost use Rattle.lego_parser.specs.private.Trees.{built, built_binding, built_kind};
-    ghost use Rattle.lego_grammar.specs.private.Machine.{Parens as ParensFrame, SecondOf, TypeOf, DomainOf, ValueOf, StatedFor, Whole as WholeFrame, InTerm, InContext, Between as IsBetween, closes as closes_so};
+    ghost use Rattle.lego_grammar.specs.private.Machine.{Parens as ParensFrame, SecondOf, TypeOf, DomainOf, ValueOf, Whole as WholeFrame, InTerm, Between as IsBetween, closes as closes_so};
+    ghost use Rattle.lego_parser.specs.declared.modes.Site.TheVariants.{Context as InContext};
+    ghost use Rattle.lego_parser.specs.declared.modes.Frame.TheVariants.{Stated};
     ghost use Rattle.lego_parser.specs.private.Frames.{frame_of, mode_of, site_of, use_of};
-    ghost use Rattle.lego_parser.specs.private.Stack.{stack, Gives};
+    ghost use Rattle.lego_parser.specs.private.Stack.{stack, Moves};
 
     /// A closing token behind a whole term, above the frame.
     pub fn closes(
@@ -44,8 +45,7 @@ impl Stack {
         frame: Frame,
         symbol: Symbol,
     ) -> Result<Option<Mode>, AllocError>
-        ensures moves { IfOk result (λ mode. Gives (closes_so self.old.building (frame_of frame) (built value) (stack self.old) (ASymbol symbol)) mode self.new) }
-        ensures building { self.new.building ≡ self.old.building }
+        ensures { Moves (closes_so BUILDING (frame_of frame) (built value) (stack self.old) (ASymbol symbol)) result self.new }
     {
         match frame {
             Frame::Parens => self.close_parens(value, symbol),
@@ -54,9 +54,9 @@ impl Stack {
             Frame::Domain(site, mark, names) => {
                 self.close_domain(site, mark, names, value, symbol)
             }
-            Frame::Value(site, place, name) => self.close_value(site, place, name, value, symbol),
-            Frame::Stated(at, bindings, place, name, body) => {
-                self.close_stated(at, bindings, place, name, body, value, symbol)
+            Frame::Value(site, name) => self.close_value(site, name, value, symbol),
+            Frame::Stated(context, name, body) => {
+                self.close_stated(context, name, body, value, symbol)
             }
             Frame::Whole(purpose) => self.close_whole(purpose, value, symbol),
             Frame::Apply {
@@ -77,13 +77,12 @@ impl Stack {
     }
 
     fn close_parens(&mut self, value: Surface, symbol: Symbol) -> Result<Option<Mode>, AllocError>
-        ensures moves { IfOk result (λ mode. Gives (closes_so self.old.building ParensFrame (built value) (stack self.old) (ASymbol symbol)) mode self.new) }
-        ensures building { self.new.building ≡ self.old.building }
+        ensures { Moves (closes_so BUILDING ParensFrame (built value) (stack self.old) (ASymbol symbol)) result self.new }
     {
         match symbol {
             Symbol::CloseParen => Ok(Some(Mode::Behind(false, self.post(value)))),
             Symbol::Comma => {
-                self.push(Frame::Second(value))?;
+                self.stack.push(Frame::Second(value))?;
                 Ok(Some(Mode::Want))
             }
             _ => Ok(None),
@@ -96,12 +95,11 @@ impl Stack {
         value: Surface,
         symbol: Symbol,
     ) -> Result<Option<Mode>, AllocError>
-        ensures moves { IfOk result (λ mode. Gives (closes_so self.old.building (SecondOf (built first)) (built value) (stack self.old) (ASymbol symbol)) mode self.new) }
-        ensures building { self.new.building ≡ self.old.building }
+        ensures { Moves (closes_so BUILDING (SecondOf (built first)) (built value) (stack self.old) (ASymbol symbol)) result self.new }
     {
         match symbol {
             Symbol::Colon => {
-                self.push(Frame::Type(first, value))?;
+                self.stack.push(Frame::Type(first, value))?;
                 Ok(Some(Mode::Want))
             }
             _ => Ok(None),
@@ -115,8 +113,7 @@ impl Stack {
         value: Surface,
         symbol: Symbol,
     ) -> Result<Option<Mode>, AllocError>
-        ensures moves { IfOk result (λ mode. Gives (closes_so self.old.building (TypeOf (built first) (built second)) (built value) (stack self.old) (ASymbol symbol)) mode self.new) }
-        ensures building { self.new.building ≡ self.old.building }
+        ensures { Moves (closes_so BUILDING (TypeOf (built first) (built second)) (built value) (stack self.old) (ASymbol symbol)) result self.new }
     {
         match symbol {
             Symbol::CloseParen => {
@@ -135,15 +132,14 @@ impl Stack {
         value: Surface,
         symbol: Symbol,
     ) -> Result<Option<Mode>, AllocError>
-        ensures moves { IfOk result (λ mode. Gives (closes_so self.old.building (DomainOf (site_of site) mark names.places.items names.names.items) (built value) (stack self.old) (ASymbol symbol)) mode self.new) }
-        ensures building { self.new.building ≡ self.old.building }
+        ensures { Moves (closes_so BUILDING (DomainOf (site_of site) mark names.places.items names.names.items) (built value) (stack self.old) (ASymbol symbol)) result self.new }
     {
         match site {
             Site::Term(kind) => self.close_binder(kind, mark, names, value, symbol),
-            Site::Context(place, bindings) => match symbol {
+            Site::Context(context) => match symbol {
                 Symbol::CloseSquare => {
                     let kind = BindingKind::Assume { mark, ty: value };
-                    let mode = self.binding_at(place, bindings, names, kind)?;
+                    let mode = self.bound(context, names, kind)?;
                     Ok(Some(mode))
                 }
                 _ => Ok(None),
@@ -159,8 +155,7 @@ impl Stack {
         value: Surface,
         symbol: Symbol,
     ) -> Result<Option<Mode>, AllocError>
-        ensures moves { IfOk result (λ mode. Gives (closes_so self.old.building (DomainOf (InTerm kind) mark names.places.items names.names.items) (built value) (stack self.old) (ASymbol symbol)) mode self.new) }
-        ensures building { self.new.building ≡ self.old.building }
+        ensures { Moves (closes_so BUILDING (DomainOf (InTerm kind) mark names.places.items names.names.items) (built value) (stack self.old) (ASymbol symbol)) result self.new }
     {
         let closing = match kind {
             Kind::Lambda => Symbol::CloseSquare,
@@ -170,7 +165,7 @@ impl Stack {
         if symbol != closing {
             return Ok(None);
         }
-        self.push(Frame::Body {
+        self.stack.push(Frame::Body {
             kind,
             mark,
             names: names.names,
@@ -182,52 +177,45 @@ impl Stack {
     fn close_value(
         &mut self,
         site: Site,
-        place: Place,
-        name: u32,
+        name: NameAt,
         value: Surface,
         symbol: Symbol,
     ) -> Result<Option<Mode>, AllocError>
-        ensures moves { IfOk result (λ mode. Gives (closes_so self.old.building (ValueOf (site_of site) place name) (built value) (stack self.old) (ASymbol symbol)) mode self.new) }
-        ensures building { self.new.building ≡ self.old.building }
+        ensures { Moves (closes_so BUILDING (ValueOf (site_of site) name.place name.name) (built value) (stack self.old) (ASymbol symbol)) result self.new }
     {
         match site {
             Site::Term(_kind) => match symbol {
                 Symbol::CloseSquare => {
-                    self.push(Frame::Local(name, value))?;
+                    self.stack.push(Frame::Local(name.name, value))?;
                     Ok(Some(Mode::Want))
                 }
                 _ => Ok(None),
             },
-            Site::Context(at, bindings) => {
-                self.close_definition(at, bindings, place, name, value, symbol)
-            }
+            Site::Context(context) => self.close_definition(context, name, value, symbol),
         }
     }
 
     fn close_definition(
         &mut self,
-        at: Place,
-        bindings: Vec<Binding>,
-        place: Place,
-        name: u32,
+        context: OpenContext,
+        name: NameAt,
         value: Surface,
         symbol: Symbol,
     ) -> Result<Option<Mode>, AllocError>
-        ensures moves { IfOk result (λ mode. Gives (closes_so self.old.building (ValueOf (InContext at (map built_binding bindings.items)) place name) (built value) (stack self.old) (ASymbol symbol)) mode self.new) }
-        ensures building { self.new.building ≡ self.old.building }
+        ensures { Moves (closes_so BUILDING (ValueOf (site_of (InContext context)) name.place name.name) (built value) (stack self.old) (ASymbol symbol)) result self.new }
     {
         match symbol {
             Symbol::CloseSquare => {
-                let names = self.one_name(place, name)?;
+                let names = self.one_name(name)?;
                 let kind = BindingKind::Define {
                     body: value,
                     ty: None,
                 };
-                let mode = self.binding_at(at, bindings, names, kind)?;
+                let mode = self.bound(context, names, kind)?;
                 Ok(Some(mode))
             }
             Symbol::Colon => {
-                self.push(Frame::Stated(at, bindings, place, name, value))?;
+                self.stack.push(Frame::Stated(context, name, value))?;
                 Ok(Some(Mode::Want))
             }
             _ => Ok(None),
@@ -236,25 +224,22 @@ impl Stack {
 
     fn close_stated(
         &mut self,
-        at: Place,
-        bindings: Vec<Binding>,
-        place: Place,
-        name: u32,
+        context: OpenContext,
+        name: NameAt,
         body: Surface,
         value: Surface,
         symbol: Symbol,
     ) -> Result<Option<Mode>, AllocError>
-        ensures moves { IfOk result (λ mode. Gives (closes_so self.old.building (StatedFor at (map built_binding bindings.items) place name (built body)) (built value) (stack self.old) (ASymbol symbol)) mode self.new) }
-        ensures building { self.new.building ≡ self.old.building }
+        ensures { Moves (closes_so BUILDING (frame_of (Stated context name body)) (built value) (stack self.old) (ASymbol symbol)) result self.new }
     {
         match symbol {
             Symbol::CloseSquare => {
-                let names = self.one_name(place, name)?;
+                let names = self.one_name(name)?;
                 let kind = BindingKind::Define {
                     body,
                     ty: Some(value),
                 };
-                let mode = self.binding_at(at, bindings, names, kind)?;
+                let mode = self.bound(context, names, kind)?;
                 Ok(Some(mode))
             }
             _ => Ok(None),
@@ -267,8 +252,7 @@ impl Stack {
         value: Surface,
         symbol: Symbol,
     ) -> Result<Option<Mode>, AllocError>
-        ensures moves { IfOk result (λ mode. Gives (closes_so self.old.building (WholeFrame (use_of purpose)) (built value) (stack self.old) (ASymbol symbol)) mode self.new) }
-        ensures building { self.new.building ≡ self.old.building }
+        ensures { Moves (closes_so BUILDING (WholeFrame (use_of purpose)) (built value) (stack self.old) (ASymbol symbol)) result self.new }
     {
         match symbol {
             Symbol::Semicolon => Ok(Some(Mode::Done(purpose.act(value)))),
@@ -276,26 +260,29 @@ impl Stack {
         }
     }
 
-    fn one_name(&self, place: Place, name: u32) -> Result<Names, AllocError>
-        ensures { IfOk result (λ r. (r.places.items ≡ place ∷ []) × (r.names.items ≡ name ∷ [])) }
+    fn one_name(&self, name: NameAt) -> Result<Names, AllocError>
+        ensures { IfOk result (λ r. (r.places.items ≡ name.place ∷ []) × (r.names.items ≡ name.name ∷ [])) }
     {
         let mut places = Vec::new(self.alloc);
         let mut names = Vec::new(self.alloc);
-        places.push(place)?;
-        names.push(name)?;
+        places.push(name.place)?;
+        names.push(name.name)?;
         Ok(Names { places, names })
     }
 
     /// One binding more of a context command.
-    fn binding_at(
+    fn bound(
         &self,
-        place: Place,
-        mut bindings: Vec<Binding>,
+        context: OpenContext,
         names: Names,
         kind: BindingKind,
     ) -> Result<Mode, AllocError>
-        ensures { IfOk result (λ mode. mode_of mode ≡ IsBetween (map built_binding bindings.items ++ record { place = place; places = names.places.items; names = names.names.items; kind = built_kind kind } ∷ [])) }
+        ensures { IfOk result (λ mode. mode_of mode ≡ IsBetween (map built_binding context.bindings.items ++ record { place = context.place; places = names.places.items; names = names.names.items; kind = built_kind kind } ∷ [])) }
     {
+        let OpenContext {
+            place,
+            mut bindings,
+        } = context;
         bindings.push(Binding {
             places: List::of(names.places),
             names: List::of(names.names),

@@ -7,6 +7,7 @@ mod closings;
 mod fault;
 mod interning;
 mod machine;
+mod modes;
 mod moves;
 mod parser;
 mod scan;

@@ -1,24 +1,22 @@
 //! The moves of the machine over a stack: each answers what may come next, or nothing
 //! where the token may not come.
-use crate::machine::{Frame, Mode, Names, Post, Site};
-use crate::stack::Stack;
+use crate::machine::Machine;
+use crate::modes::{Frame, Mode, NameAt, Names, Post, Site};
 use lego_base::Place;
 use lego_grammar::{Kind, Part, Surface};
 use lego_lexer::{Symbol, TokenKind, Word};
 use lego_term::Mark;
 use std::alloc::AllocError;
 
-impl Stack {
-    ghost use Rattle.std.specs.Prelude.{◌≡◌, [], ◌∷◌, IfOk, OnOk};
+impl<const BUILDING: bool> Machine<BUILDING> {
+    ghost use Rattle.std.specs.Prelude.{◌≡◌, [], IfOk, OnOk};
     ghost use Rattle.lego_lexer.specs.declared.token.TokenKind.TheVariants.{Symbol as ASymbol};
     ghost use Rattle.lego_lexer.specs.declared.token.Symbol.TheVariants.{OpenParen};
     ghost use Rattle.lego_term.specs.declared.binder.Mark.TheVariants.{Plain, Implicit as ImplicitMark};
-    ghost use Rattle.lego_grammar.specs.Written.{Apply as Applies};
-    ghost use Rattle.lego_parser.specs.private.Trees.{spine_so_far};
     ghost use Rattle.lego_parser.specs.private.Trees.{built};
     ghost use Rattle.lego_grammar.specs.private.Machine.{InTerm, Want as WantMode, WantName as WantsName, ApplyTo, HashFrom, ArrowFrom, moves as goes, operand as operand_so, sums as sums_so, pending, settled, summed, closed, closes_top, keep as keeps, behind as behind_so, behind_paren as behind_paren_so, behind_name as behind_name_so, part as part_so, valued};
-    ghost use Rattle.lego_parser.specs.private.Frames.{frame_of, mode_of, post_of, site_of, arguments_of};
-    ghost use Rattle.lego_parser.specs.private.Stack.{stack, Gives, Takes, Ends};
+    ghost use Rattle.lego_parser.specs.private.Frames.{frame_of, mode_of, post_of, site_of, one_more_argument};
+    ghost use Rattle.lego_parser.specs.private.Stack.{stack, applied_to, awaits, Moves, Leaves, Takes, Ends};
 
     /// A token where an operand is due.
     pub fn operand(
@@ -27,8 +25,7 @@ impl Stack {
         place: Place,
         name: u32,
     ) -> Result<Option<Mode>, AllocError>
-        ensures moves { IfOk result (λ mode. Gives (operand_so self.old.building kind place name (stack self.old)) mode self.new) }
-        ensures building { self.new.building ≡ self.old.building }
+        ensures { Moves (operand_so BUILDING kind place name (stack self.old)) result self.new }
     {
         match kind {
             TokenKind::Name => {
@@ -42,7 +39,7 @@ impl Stack {
             }
             TokenKind::Symbol(Symbol::Question) => Ok(Some(Mode::WantGoal(place))),
             TokenKind::Symbol(Symbol::OpenParen) => {
-                self.push(Frame::Parens)?;
+                self.stack.push(Frame::Parens)?;
                 Ok(Some(Mode::Want))
             }
             TokenKind::Symbol(Symbol::OpenSquare) => Ok(Some(self.binder(Kind::Lambda))),
@@ -70,10 +67,9 @@ impl Stack {
 
     /// An argument goes to its function.
     fn settle(&mut self, value: Surface) -> Result<Surface, AllocError>
-        ensures settles { IfOk result (λ r. settled self.old.building (built value) (stack self.old) ≡ (built r, stack self.new)) }
-        ensures building { self.new.building ≡ self.old.building }
+        ensures { Leaves (settled BUILDING (built value) (stack self.old)) result self.new }
     {
-        match self.pop() {
+        match self.stack.pop() {
             Some(
                 Frame::Apply {
                     mark,
@@ -82,7 +78,7 @@ impl Stack {
                 },
             ) => self.end_apply(mark, function, arguments, value),
             Some(frame) => {
-                self.push(frame)?;
+                self.stack.push(frame)?;
                 Ok(value)
             }
             None => Ok(value),
@@ -96,9 +92,9 @@ impl Stack {
         arguments: Vec<(Mark, Surface)>,
         argument: Surface,
     ) -> Result<Surface, AllocError>
-        ensures { IfOk result (λ r. built r ≡ keeps self.now.building (Applies mark (spine_so_far (built function) (arguments_of arguments.items)) (built argument))) }
+        ensures { IfOk result (λ r. built r ≡ keeps BUILDING (one_more_argument mark function arguments.items argument)) }
     {
-        if self.building {
+        if BUILDING {
             self.apply(mark, function, arguments, argument)
         } else {
             Ok(Surface::Prop)
@@ -108,10 +104,9 @@ impl Stack {
     /// The operand becomes a function that awaits an argument, or the last argument of
     /// one.
     fn apply_to(&mut self, value: Surface, mark: Mark) -> Result<(), AllocError>
-        ensures awaits { OnOk result (stack self.new ≡ ApplyTo mark (settled self.old.building (built value) (stack self.old)).0 ∷ (settled self.old.building (built value) (stack self.old)).1) }
-        ensures building { self.new.building ≡ self.old.building }
+        ensures { OnOk result (stack self.new ≡ applied_to BUILDING mark (built value) (stack self.old)) }
     {
-        let frame = match self.pop() {
+        let frame = match self.stack.pop() {
             Some(
                 Frame::Apply {
                     mark: last,
@@ -120,12 +115,12 @@ impl Stack {
                 },
             ) => self.lengthen(last, function, arguments, value, mark)?,
             Some(frame) => {
-                self.push(frame)?;
+                self.stack.push(frame)?;
                 self.function(value, mark)
             }
             None => self.function(value, mark),
         };
-        self.push(frame)
+        self.stack.push(frame)
     }
 
     fn function(&self, value: Surface, mark: Mark) -> Frame
@@ -147,9 +142,9 @@ impl Stack {
         argument: Surface,
         mark: Mark,
     ) -> Result<Frame, AllocError>
-        ensures { IfOk result (λ r. frame_of r ≡ ApplyTo mark (keeps self.now.building (Applies last (spine_so_far (built function) (arguments_of arguments.items)) (built argument)))) }
+        ensures { IfOk result (λ r. frame_of r ≡ ApplyTo mark (keeps BUILDING (one_more_argument last function arguments.items argument))) }
     {
-        if !self.building {
+        if !BUILDING {
             return Ok(self.function(Surface::Prop, mark));
         }
         let spine = self.with_argument(last, function, arguments, argument)?;
@@ -162,24 +157,22 @@ impl Stack {
 
     /// The frame on top, where the last part of a sum ends it.
     fn take_sum(&mut self) -> Result<Option<Frame>, AllocError>
-        ensures takes { IfOk result (λ frame. Takes sums_so (stack self.old) frame (stack self.new)) }
-        ensures building { self.new.building ≡ self.old.building }
+        ensures { IfOk result (λ frame. Takes sums_so (stack self.old) frame (stack self.new)) }
     {
-        let Some(frame) = self.pop() else {
+        let Some(frame) = self.stack.pop() else {
             return Ok(None);
         };
         if frame.sums() {
             return Ok(Some(frame));
         }
-        self.push(frame)?;
+        self.stack.push(frame)?;
         Ok(None)
     }
 
     /// A spine ends the sum on top, if there is one.
     #[tactic(auto, using(crate::proofs::StackLemmas::summed_ends, crate::proofs::StackLemmas::summed_left))]
     fn sum_top(&mut self, value: &mut Surface) -> Result<bool, AllocError>
-        ensures ends { IfOk result (λ more. Ends (summed self.old.building) more (built value.old) (stack self.old) (built value.new) (stack self.new)) }
-        ensures building { self.new.building ≡ self.old.building }
+        ensures { IfOk result (λ more. Ends (summed BUILDING) more (built value.old) (stack self.old) (built value.new) (stack self.new)) }
     {
         let Some(frame) = self.take_sum()? else {
             return Ok(false);
@@ -191,8 +184,7 @@ impl Stack {
 
     /// A spine ends the sums of which it is the last part.
     fn sum(&mut self, mut value: Surface) -> Result<Surface, AllocError>
-        ensures sums { IfOk result (λ r. summed self.old.building (built value) (stack self.old) ≡ (built r, stack self.new)) }
-        ensures building { self.new.building ≡ self.old.building }
+        ensures { Leaves (summed BUILDING (built value) (stack self.old)) result self.new }
     {
         while self.sum_top(&mut value)? {}
         Ok(value)
@@ -200,24 +192,22 @@ impl Stack {
 
     /// The frame on top, where a whole term ends it.
     fn take_pending(&mut self) -> Result<Option<Frame>, AllocError>
-        ensures takes { IfOk result (λ frame. Takes pending (stack self.old) frame (stack self.new)) }
-        ensures building { self.new.building ≡ self.old.building }
+        ensures { IfOk result (λ frame. Takes pending (stack self.old) frame (stack self.new)) }
     {
-        let Some(frame) = self.pop() else {
+        let Some(frame) = self.stack.pop() else {
             return Ok(None);
         };
         if frame.is_pending() {
             return Ok(Some(frame));
         }
-        self.push(frame)?;
+        self.stack.push(frame)?;
         Ok(None)
     }
 
     /// A term ends what awaits it on top, if anything does.
     #[tactic(auto, using(crate::proofs::StackLemmas::closed_ends, crate::proofs::StackLemmas::closed_left))]
     fn close_top(&mut self, value: &mut Surface) -> Result<bool, AllocError>
-        ensures ends { IfOk result (λ more. Ends (closed self.old.building) more (built value.old) (stack self.old) (built value.new) (stack self.new)) }
-        ensures building { self.new.building ≡ self.old.building }
+        ensures { IfOk result (λ more. Ends (closed BUILDING) more (built value.old) (stack self.old) (built value.new) (stack self.new)) }
     {
         let Some(frame) = self.take_pending()? else {
             return Ok(false);
@@ -229,8 +219,7 @@ impl Stack {
 
     /// A term ends all that it is the last part of.
     fn close(&mut self, mut value: Surface) -> Result<Surface, AllocError>
-        ensures closes { IfOk result (λ r. closed self.old.building (built value) (stack self.old) ≡ (built r, stack self.new)) }
-        ensures building { self.new.building ≡ self.old.building }
+        ensures { Leaves (closed BUILDING (built value) (stack self.old)) result self.new }
     {
         while self.close_top(&mut value)? {}
         Ok(value)
@@ -238,8 +227,7 @@ impl Stack {
 
     /// A closing token behind a whole term.
     fn end(&mut self, post: Post, symbol: Symbol) -> Result<Option<Mode>, AllocError>
-        ensures moves { IfOk result (λ mode. Gives (closes_top self.old.building (closed self.old.building (post_of post) (stack self.old)) (ASymbol symbol)) mode self.new) }
-        ensures building { self.new.building ≡ self.old.building }
+        ensures { Moves (closes_top BUILDING (closed BUILDING (post_of post) (stack self.old)) (ASymbol symbol)) result self.new }
     {
         let value = self.tree(post)?;
         let value = self.close(value)?;
@@ -248,10 +236,9 @@ impl Stack {
 
     /// A closing token behind a whole term, above the frame on top.
     fn end_top(&mut self, value: Surface, symbol: Symbol) -> Result<Option<Mode>, AllocError>
-        ensures moves { IfOk result (λ mode. Gives (closes_top self.old.building (built value, stack self.old) (ASymbol symbol)) mode self.new) }
-        ensures building { self.new.building ≡ self.old.building }
+        ensures { Moves (closes_top BUILDING (built value, stack self.old) (ASymbol symbol)) result self.new }
     {
-        let Some(frame) = self.pop() else {
+        let Some(frame) = self.stack.pop() else {
             return Ok(None);
         };
         self.closes(value, frame, symbol)
@@ -265,8 +252,7 @@ impl Stack {
         name: u32,
         post: Post,
     ) -> Result<Option<Mode>, AllocError>
-        ensures moves { IfOk result (λ mode. Gives (operand_so self.old.building kind place name (ApplyTo Plain (settled self.old.building (post_of post) (stack self.old)).0 ∷ (settled self.old.building (post_of post) (stack self.old)).1)) mode self.new) }
-        ensures building { self.new.building ≡ self.old.building }
+        ensures { Moves (operand_so BUILDING kind place name (applied_to BUILDING Plain (post_of post) (stack self.old))) result self.new }
     {
         let value = self.tree(post)?;
         self.apply_to(value, Mark::Plain)?;
@@ -275,8 +261,7 @@ impl Stack {
 
     /// A bar behind an operand: its next argument is implicit.
     fn implicit(&mut self, post: Post) -> Result<Option<Mode>, AllocError>
-        ensures moves { IfOk result (λ mode. Gives (goes WantMode (ApplyTo ImplicitMark (settled self.old.building (post_of post) (stack self.old)).0 ∷ (settled self.old.building (post_of post) (stack self.old)).1)) mode self.new) }
-        ensures building { self.new.building ≡ self.old.building }
+        ensures { Moves (goes WantMode (applied_to BUILDING ImplicitMark (post_of post) (stack self.old))) result self.new }
     {
         let value = self.tree(post)?;
         self.apply_to(value, Mark::Implicit)?;
@@ -285,23 +270,21 @@ impl Stack {
 
     /// A `#` behind an operand.
     fn hash(&mut self, post: Post) -> Result<Option<Mode>, AllocError>
-        ensures moves { IfOk result (λ mode. Gives (goes WantMode (HashFrom (settled self.old.building (post_of post) (stack self.old)).0 ∷ (settled self.old.building (post_of post) (stack self.old)).1)) mode self.new) }
-        ensures building { self.new.building ≡ self.old.building }
+        ensures { Moves (goes WantMode (awaits HashFrom (settled BUILDING (post_of post) (stack self.old)))) result self.new }
     {
         let value = self.tree(post)?;
         let value = self.settle(value)?;
-        self.push(Frame::Hash(value))?;
+        self.stack.push(Frame::Hash(value))?;
         Ok(Some(Mode::Want))
     }
 
     /// An arrow behind an operand.
     fn arrow(&mut self, post: Post) -> Result<Option<Mode>, AllocError>
-        ensures moves { IfOk result (λ mode. Gives (goes WantMode (ArrowFrom (summed self.old.building (post_of post) (stack self.old)).0 ∷ (summed self.old.building (post_of post) (stack self.old)).1)) mode self.new) }
-        ensures building { self.new.building ≡ self.old.building }
+        ensures { Moves (goes WantMode (awaits ArrowFrom (summed BUILDING (post_of post) (stack self.old)))) result self.new }
     {
         let value = self.tree(post)?;
         let value = self.sum(value)?;
-        self.push(Frame::Arrow(value))?;
+        self.stack.push(Frame::Arrow(value))?;
         Ok(Some(Mode::Want))
     }
 
@@ -314,8 +297,7 @@ impl Stack {
         level: bool,
         post: Post,
     ) -> Result<Option<Mode>, AllocError>
-        ensures moves { IfOk result (λ mode. Gives (behind_so self.old.building kind place name level (post_of post) (stack self.old)) mode self.new) }
-        ensures building { self.new.building ≡ self.old.building }
+        ensures { Moves (behind_so BUILDING kind place name level (post_of post) (stack self.old)) result self.new }
     {
         match kind {
             TokenKind::Symbol(Symbol::Dot) => Ok(Some(Mode::WantPart(post))),
@@ -342,8 +324,7 @@ impl Stack {
         level: bool,
         post: Post,
     ) -> Result<Option<Mode>, AllocError>
-        ensures moves { IfOk result (λ mode. Gives (behind_so self.old.building (ASymbol OpenParen) place name level (post_of post) (stack self.old)) mode self.new) }
-        ensures building { self.new.building ≡ self.old.building }
+        ensures { Moves (behind_so BUILDING (ASymbol OpenParen) place name level (post_of post) (stack self.old)) result self.new }
     {
         if level {
             let value = self.tree(post)?;
@@ -361,14 +342,13 @@ impl Stack {
         name: u32,
         value: Surface,
     ) -> Result<Option<Mode>, AllocError>
-        ensures moves { IfOk result (λ mode. Gives (behind_paren_so self.old.building kind place name (built value) (stack self.old)) mode self.new) }
-        ensures building { self.new.building ≡ self.old.building }
+        ensures { Moves (behind_paren_so BUILDING kind place name (built value) (stack self.old)) result self.new }
     {
         match kind {
             TokenKind::Number(level) => Ok(Some(Mode::CloseLevel(level))),
             _ => {
                 self.apply_to(value, Mark::Plain)?;
-                self.push(Frame::Parens)?;
+                self.stack.push(Frame::Parens)?;
                 self.operand(kind, place, name)
             }
         }
@@ -376,8 +356,7 @@ impl Stack {
 
     /// A token behind `.`.
     pub fn part(&mut self, kind: TokenKind, post: Post) -> Result<Option<Mode>, AllocError>
-        ensures moves { IfOk result (λ mode. Gives (part_so self.old.building kind (post_of post) (stack self.old)) mode self.new) }
-        ensures building { self.new.building ≡ self.old.building }
+        ensures { Moves (part_so BUILDING kind (post_of post) (stack self.old)) result self.new }
     {
         match kind {
             TokenKind::Number(1) => {
@@ -399,20 +378,19 @@ impl Stack {
         site: Site,
         names: Names,
     ) -> Result<Option<Mode>, AllocError>
-        ensures moves { IfOk result (λ mode. Gives (behind_name_so kind (site_of site) names.places.items names.names.items (stack self.old)) mode self.new) }
-        ensures building { self.new.building ≡ self.old.building }
+        ensures { Moves (behind_name_so kind (site_of site) names.places.items names.names.items (stack self.old)) result self.new }
     {
         match kind {
             TokenKind::Symbol(Symbol::Comma) => Ok(Some(Mode::WantName(site, names))),
             TokenKind::Symbol(Symbol::Colon) => {
-                self.push(Frame::Domain(site, Mark::Plain, names))?;
+                self.stack.push(Frame::Domain(site, Mark::Plain, names))?;
                 Ok(Some(Mode::Want))
             }
             TokenKind::Symbol(Symbol::Bar) => {
                 if !site.hides() {
                     return Ok(None);
                 }
-                self.push(Frame::Domain(site, Mark::Implicit, names))?;
+                self.stack.push(Frame::Domain(site, Mark::Implicit, names))?;
                 Ok(Some(Mode::Want))
             }
             TokenKind::Symbol(Symbol::Equals) => {
@@ -426,15 +404,17 @@ impl Stack {
     }
 
     fn give_value(&mut self, site: Site, names: Names) -> Result<Option<Mode>, AllocError>
-        ensures moves { IfOk result (λ mode. Gives (valued (site_of site) names.places.items names.names.items (stack self.old)) mode self.new) }
-        ensures building { self.new.building ≡ self.old.building }
+        ensures { Moves (valued (site_of site) names.places.items names.names.items (stack self.old)) result self.new }
     {
         let Names { places, names } = names;
         if places.len() != 1 || names.len() != 1 {
             return Ok(None);
         }
-        let (place, name) = (places[0], names[0]);
-        self.push(Frame::Value(site, place, name))?;
+        let name = NameAt {
+            place: places[0],
+            name: names[0],
+        };
+        self.stack.push(Frame::Value(site, name))?;
         Ok(Some(Mode::Want))
     }
 }

@@ -3,8 +3,8 @@ ghost use Rattle.std.specs.Prelude.{◌≡◌, List, map, ℕ, IfOk};
 ghost use Rattle.lego_grammar.specs.Grammar.{item_of};
 ghost use Rattle.lego_parser.specs.private.Scanning.{mode_at, IsScan};
 
-use crate::machine::Mode;
-use crate::stack::Stack;
+use crate::machine::Machine;
+use crate::modes::Mode;
 use lego_lexer::Token;
 use std::alloc::{AllocError, Global};
 
@@ -61,19 +61,19 @@ impl Scan {
     pub fn over(alloc: Global, tokens: &[Token], start: Start) -> Result<Scan, AllocError>
         ensures { IfOk result (λ scan. (bytes : List ℕ) → IsScan (map (item_of bytes) tokens.now) (mode_at start) scan) }
     {
-        let mut stack = Stack::new(alloc, false);
+        let mut machine = Machine::<false>::new(alloc);
         let mut mode = start.mode(alloc);
         let mut deep = None;
         for (index, token) in tokens.iter().enumerate() {
             let stage = mode.stage();
-            let Some(next) = stack.step(mode, token.kind, token.place, 0)? else {
+            let Some(next) = machine.step(mode, token.kind, token.place, 0)? else {
                 return Ok(Scan {
                     stop: index,
                     deep,
                     stage,
                 });
             };
-            if stack.level(&next) > MAX_LEVEL {
+            if machine.stack.level(&next) > MAX_LEVEL {
                 deep = deep.or(Some(index + 1));
             }
             mode = next;

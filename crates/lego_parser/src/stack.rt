@@ -3,15 +3,12 @@ ghost use Rattle.std.specs.Prelude.{◌≡◌};
 ghost use Rattle.lego_grammar.specs.private.Machine.{height as level_of};
 ghost use Rattle.lego_parser.specs.private.Frames.{frames_of};
 
-use crate::machine::{Frame, Mode};
+use crate::modes::{Frame, Mode};
 use std::alloc::{AllocError, Global};
 
 /// What is awaited, the newest last.
 #[derive(Drop)]
 pub(crate) struct Stack {
-    pub(crate) alloc: Global,
-    /// Whether trees are built, or only the shape is followed.
-    pub(crate) building: bool,
     frames: Vec<Frame>,
     /// How many of the frames nest.
     height: usize,
@@ -22,15 +19,12 @@ impl Stack {
     ghost use Rattle.std.specs.Prelude.{[], ◌∷◌, OnOk, MatchOption};
     ghost use Rattle.lego_grammar.specs.private.Machine.{state, level as level_in};
     ghost use Rattle.lego_parser.specs.private.Frames.{frame_of, mode_of};
-    ghost use Rattle.lego_parser.specs.private.Stack.{stack};
+    ghost use Rattle.lego_parser.specs.private.Stack.{awaited};
 
-    pub fn new(alloc: Global, building: bool) -> Stack
-        ensures empty { stack result ≡ [] }
-        ensures building { result.building ≡ building }
+    pub fn new(alloc: Global) -> Stack
+        ensures { awaited result ≡ [] }
     {
         Stack {
-            alloc,
-            building,
             frames: Vec::new(alloc),
             height: 0,
         }
@@ -38,7 +32,7 @@ impl Stack {
 
     /// The level of the next token in this mode.
     pub fn level(&self, mode: &Mode) -> usize
-        ensures { result ≡ level_in (state (mode_of mode.now) (stack self.now)) }
+        ensures { result ≡ level_in (state (mode_of mode.now) (awaited self.now)) }
     {
         match mode {
             Mode::WantLevel(_) | Mode::WantName(..) | Mode::BehindName(..) => self.height + 1,
@@ -47,8 +41,7 @@ impl Stack {
     }
 
     pub fn push(&mut self, frame: Frame) -> Result<(), AllocError>
-        ensures ok { OnOk result (stack self.new ≡ frame_of frame ∷ stack self.old) }
-        ensures building { self.new.building ≡ self.old.building }
+        ensures { OnOk result (awaited self.new ≡ frame_of frame ∷ awaited self.old) }
     {
         let nests = frame.nests();
         self.frames.push(frame)?;
@@ -61,8 +54,7 @@ impl Stack {
     }
 
     pub fn pop(&mut self) -> Option<Frame>
-        ensures frame { MatchOption result ((stack self.old ≡ []) × (stack self.new ≡ [])) (λ frame. stack self.old ≡ frame_of frame ∷ stack self.new) }
-        ensures building { self.new.building ≡ self.old.building }
+        ensures { MatchOption result ((awaited self.old ≡ []) × (awaited self.new ≡ [])) (λ frame. awaited self.old ≡ frame_of frame ∷ awaited self.new) }
     {
         let frame = self.frames.pop()?;
         if frame.nests() {

@@ -4,27 +4,25 @@ ghost use Rattle.lego_parser.specs.private.Trees.{built};
 ghost use Rattle.lego_grammar.specs.private.Machine.{wrapped as wraps};
 ghost use Rattle.lego_parser.specs.private.Frames.{frame_of};
 
-use crate::machine::{Frame, Mode, Post, Spine};
-use crate::stack::Stack;
+use crate::machine::Machine;
+use crate::modes::{Frame, Mode, Post, Spine};
 use lego_grammar::{Kind, Part, Surface};
 use lego_term::{List, Mark};
 use sqlite_items::Boxed;
 use std::alloc::AllocError;
 
-impl Stack {
-    ghost use Rattle.std.specs.Prelude.{true, [], ◌∷◌, ◌++◌, IfOk};
-    ghost use Rattle.lego_grammar.specs.Written.{Bind as Binds, Local as Locally, Apply as Applies, Project as Projects, Pair};
+impl<const BUILDING: bool> Machine<BUILDING> {
+    ghost use Rattle.std.specs.Prelude.{true, [], IfOk};
+    ghost use Rattle.lego_grammar.specs.Written.{Bind as Binds, Local as Locally, Project as Projects, Pair};
     ghost use Rattle.lego_term.specs.declared.binder.Mark.TheVariants.{Plain};
-    ghost use Rattle.lego_grammar.specs.Surface.{applied, projected};
-    ghost use Rattle.lego_parser.specs.private.Trees.{function_of, operand_of, whole_spine, whole_run, spine_so_far};
+    ghost use Rattle.lego_parser.specs.private.Trees.{whole_spine, whole_run, spine_so_far};
     ghost use Rattle.lego_grammar.specs.private.Machine.{keep as keeps};
-    ghost use Rattle.lego_parser.specs.private.Frames.{post_of, arguments_of};
-    ghost use Rattle.lego_parser.specs.private.Stack.{stack};
+    ghost use Rattle.lego_parser.specs.private.Frames.{post_of, arguments_of, one_more_argument, spine_term, run_term, IsSpineOf};
 
     pub fn keep(&self, tree: Surface) -> Surface
-        ensures { built result ≡ keeps self.now.building (built tree) }
+        ensures { built result ≡ keeps BUILDING (built tree) }
     {
-        if self.building { tree } else { Surface::Prop }
+        if BUILDING { tree } else { Surface::Prop }
     }
 
     /// An operand without projections.
@@ -39,9 +37,9 @@ impl Stack {
 
     /// The operand with one more projection.
     pub fn project(&self, post: Post, part: Part) -> Result<Post, AllocError>
-        ensures { IfOk result (λ r. post_of r ≡ keeps self.now.building (Projects part (post_of post))) }
+        ensures { IfOk result (λ r. post_of r ≡ keeps BUILDING (Projects part (post_of post))) }
     {
-        if !self.building {
+        if !BUILDING {
             return Ok(self.post(Surface::Prop));
         }
         let Post { of, mut parts } = self.run(post);
@@ -51,7 +49,7 @@ impl Stack {
 
     /// The same operand, with all projections of it among its parts.
     fn run(&self, post: Post) -> Post
-        ensures { projected (operand_of (built result.of)) result.parts.items ≡ post_of post }
+        ensures { run_term result ≡ post_of post }
     {
         let Post { of, parts } = post;
         if parts.is_empty() {
@@ -62,7 +60,7 @@ impl Stack {
 
     /// An operand apart from its own projections.
     fn run_of(&self, of: Surface) -> Post
-        ensures { projected (operand_of (built result.of)) result.parts.items ≡ built of }
+        ensures { run_term result ≡ built of }
     {
         match of {
             Surface::Project { of, parts } => self.reopened(of, parts),
@@ -71,7 +69,7 @@ impl Stack {
     }
 
     fn reopened(&self, of: Boxed<Surface>, parts: List<Part>) -> Post
-        ensures { projected (operand_of (built result.of)) result.parts.items ≡ whole_run (built of) parts }
+        ensures { run_term result ≡ whole_run (built of) parts }
     {
         if parts.items().is_empty() {
             return self.post(Surface::Project { of, parts });
@@ -124,9 +122,9 @@ impl Stack {
 
     /// The pair.
     pub fn pair(&self, first: Surface, second: Surface, ty: Surface) -> Result<Surface, AllocError>
-        ensures { IfOk result (λ r. built r ≡ keeps self.now.building (Pair (built first) (built second) (built ty))) }
+        ensures { IfOk result (λ r. built r ≡ keeps BUILDING (Pair (built first) (built second) (built ty))) }
     {
-        if !self.building {
+        if !BUILDING {
             return Ok(Surface::Prop);
         }
         Ok(Surface::Pair {
@@ -138,9 +136,9 @@ impl Stack {
 
     /// The term that ends with this one.
     pub fn wrapped(&self, frame: Frame, value: Surface) -> Result<Surface, AllocError>
-        ensures { IfOk result (λ r. built r ≡ wraps self.now.building (frame_of frame) (built value)) }
+        ensures { IfOk result (λ r. built r ≡ wraps BUILDING (frame_of frame) (built value)) }
     {
-        if self.building {
+        if BUILDING {
             return self.wrap(frame, value);
         }
         Ok(shape(frame, value))
@@ -168,8 +166,8 @@ impl Stack {
             Frame::Second(_first) => Ok(value),
             Frame::Type(_first, _second) => Ok(value),
             Frame::Domain(_site, _mark, _names) => Ok(value),
-            Frame::Value(_site, _place, _name) => Ok(value),
-            Frame::Stated(_at, _bindings, _place, _name, _body) => Ok(value),
+            Frame::Value(_site, _name) => Ok(value),
+            Frame::Stated(_context, _name, _body) => Ok(value),
             Frame::Whole(_use) => Ok(value),
         }
     }
@@ -182,7 +180,7 @@ impl Stack {
         arguments: Vec<(Mark, Surface)>,
         argument: Surface,
     ) -> Result<Surface, AllocError>
-        ensures { IfOk result (λ r. built r ≡ Applies mark (spine_so_far (built function) (arguments_of arguments.items)) (built argument)) }
+        ensures { IfOk result (λ r. built r ≡ one_more_argument mark function arguments.items argument) }
     {
         let spine = self.with_argument(mark, function, arguments, argument)?;
         Ok(Surface::Apply {
@@ -199,8 +197,7 @@ impl Stack {
         arguments: Vec<(Mark, Surface)>,
         argument: Surface,
     ) -> Result<Spine, AllocError>
-        ensures { IfOk result (λ r. (whole_spine (built r.function) (arguments_of r.arguments.items) ≡ Applies mark (spine_so_far (built function) (arguments_of arguments.items)) (built argument))
-            × (spine_so_far (built r.function) (arguments_of r.arguments.items) ≡ Applies mark (spine_so_far (built function) (arguments_of arguments.items)) (built argument))) }
+        ensures { IfOk result (λ spine. IsSpineOf spine (one_more_argument mark function arguments.items argument)) }
     {
         let Spine {
             function,
@@ -215,7 +212,7 @@ impl Stack {
 
     /// The same function and arguments, with all arguments of the function among them.
     fn spine(&self, function: Surface, arguments: Vec<(Mark, Surface)>) -> Spine
-        ensures { applied (function_of (built result.function)) (arguments_of result.arguments.items) ≡ spine_so_far (built function) (arguments_of arguments.items) }
+        ensures { spine_term result ≡ spine_so_far (built function) (arguments_of arguments.items) }
     {
         if arguments.is_empty() {
             return self.spine_of(function);
@@ -228,7 +225,7 @@ impl Stack {
 
     /// A function apart from its own arguments.
     fn spine_of(&self, function: Surface) -> Spine
-        ensures { applied (function_of (built result.function)) (arguments_of result.arguments.items) ≡ built function }
+        ensures { spine_term result ≡ built function }
     {
         match function {
             Surface::Apply {
@@ -250,7 +247,7 @@ impl Stack {
     }
 
     fn reopened_spine(&self, function: Boxed<Surface>, arguments: List<(Mark, Surface)>) -> Spine
-        ensures { applied (function_of (built result.function)) (arguments_of result.arguments.items) ≡ whole_spine (built function) (arguments_of arguments) }
+        ensures { spine_term result ≡ whole_spine (built function) (arguments_of arguments) }
     {
         if arguments.items().is_empty() {
             return self.no_arguments(Surface::Apply {

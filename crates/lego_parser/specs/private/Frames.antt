@@ -1,20 +1,21 @@
 -- What the parser's stack and its modes stand for.
-use Rattle.std.specs.Prelude.{List, map, reverse}
+use Rattle.std.specs.Prelude.{◌≡◌, List, map, reverse}
 use Rattle.lego_term.specs.declared.binder.Mark.{Mark}
 use Rattle.lego_grammar.specs.declared.surface.Surface.{Surface}
-use Rattle.lego_grammar.specs.Written.{Written}
-use Rattle.lego_parser.specs.private.Trees.{spine_so_far, run_so_far}
-use Rattle.lego_parser.specs.private.Trees.{built, built_binding, built_act}
+use Rattle.lego_grammar.specs.Written.{Written, Apply}
+use Rattle.lego_grammar.specs.Surface.{applied, projected}
+use Rattle.lego_parser.specs.private.Trees.{function_of, operand_of, whole_spine, spine_so_far, run_so_far, built, built_binding, built_act}
 use Rattle.lego_grammar.specs.private.Machine as M
-use Rattle.lego_parser.specs.declared.machine.Site.{Site}
-use Rattle.lego_parser.specs.declared.machine.Use.{Use}
-use Rattle.lego_parser.specs.declared.machine.Frame.{Frame}
-use Rattle.lego_parser.specs.declared.machine.Post.{Post}
-use Rattle.lego_parser.specs.declared.machine.Mode.{Mode}
+use Rattle.lego_parser.specs.declared.modes.Site.{Site}
+use Rattle.lego_parser.specs.declared.modes.Use.{Use}
+use Rattle.lego_parser.specs.declared.modes.Frame.{Frame}
+use Rattle.lego_parser.specs.declared.modes.Post.{Post}
+use Rattle.lego_parser.specs.declared.modes.Spine.{Spine}
+use Rattle.lego_parser.specs.declared.modes.Mode.{Mode}
 
 abbrev pub site_of : Site → M.Site
 site_of (Site.Term k) = M.InTerm k
-site_of (Site.Context p bs) = M.InContext p (map built_binding bs.items)
+site_of (Site.Context c) = M.InContext c.place (map built_binding c.bindings.items)
 
 abbrev pub use_of : Use → M.Use
 use_of Use.Show = M.ToShow
@@ -28,6 +29,23 @@ use_of (Use.Goal name) = M.ToGoal name
 abbrev pub arguments_of : List (Mark × Surface) → List (Mark × Written)
 arguments_of xs = map (λ x. (x.0, built x.1)) xs
 
+-- a function with these arguments so far, applied to one more
+abbrev pub one_more_argument : Mark → Surface → List (Mark × Surface) → Surface → Written
+one_more_argument mark function arguments argument = Apply mark (spine_so_far (built function) (arguments_of arguments)) (built argument)
+
+-- a function with its arguments, of which there may be none
+abbrev pub spine_term : Spine → Written
+spine_term s = applied (function_of (built s.function)) (arguments_of s.arguments.items)
+
+-- the spine has an argument, and is this term
+abbrev pub IsSpineOf : Spine → Written → Type 0
+IsSpineOf s term =
+    (whole_spine (built s.function) (arguments_of s.arguments.items) ≡ term) × (spine_so_far (built s.function) (arguments_of s.arguments.items) ≡ term)
+
+-- an operand with its projections, of which there may be none
+abbrev pub run_term : Post → Written
+run_term v = projected (operand_of (built v.of)) v.parts.items
+
 abbrev pub frame_of : Frame → M.Frame
 frame_of (Frame.Apply mark function arguments) = M.ApplyTo mark (spine_so_far (built function) (arguments_of arguments.items))
 frame_of (Frame.Hash a) = M.HashFrom (built a)
@@ -38,8 +56,8 @@ frame_of Frame.Parens = M.Parens
 frame_of (Frame.Second m) = M.SecondOf (built m)
 frame_of (Frame.Type m n) = M.TypeOf (built m) (built n)
 frame_of (Frame.Domain site m ns) = M.DomainOf (site_of site) m ns.places.items ns.names.items
-frame_of (Frame.Value site p n) = M.ValueOf (site_of site) p n
-frame_of (Frame.Stated p bs q n m) = M.StatedFor p (map built_binding bs.items) q n (built m)
+frame_of (Frame.Value site n) = M.ValueOf (site_of site) n.place n.name
+frame_of (Frame.Stated c n m) = M.StatedFor c.place (map built_binding c.bindings.items) n.place n.name (built m)
 frame_of (Frame.Whole u) = M.Whole (use_of u)
 
 -- the newest first
@@ -61,7 +79,7 @@ mode_of (Mode.WantName site ns) = M.WantName (site_of site) ns.places.items ns.n
 mode_of (Mode.BehindName site ns) = M.BehindName (site_of site) ns.places.items ns.names.items
 mode_of (Mode.Between bs) = M.Between (map built_binding bs.items)
 mode_of Mode.BehindGoal = M.BehindGoal
-mode_of (Mode.BehindGoalName p n) = M.BehindGoalName p n
+mode_of (Mode.BehindGoalName n) = M.BehindGoalName n.place n.name
 mode_of (Mode.WantIntros ns) = M.WantIntros ns.places.items ns.names.items
 mode_of Mode.WantNext = M.WantNext
 mode_of Mode.WantUndo = M.WantUndo

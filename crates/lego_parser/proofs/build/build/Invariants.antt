@@ -1,4 +1,4 @@
-use Rattle.std.proofs.Common.{◌≡◌, true, map}
+use Rattle.std.proofs.Common.{map}
 use Rattle.lego_grammar.specs.Grammar.{item_of}
 use Rattle.lego_parser.specs.private.Frames.{mode_of}
 use Rattle.lego_parser.specs.private.Stack.{stack}
@@ -6,7 +6,4 @@ use Rattle.lego_parser.proofs.BuildLemmas.{Left}
 use Rattle.lego_parser.proofs.build.build.Given as goal
 
 abbrev pub invariant-loop-token : goal.invariant-loop-token
-invariant-loop-token l = record {
-  left : Left l.names (map (item_of l.text) l.tokens) l.token-index (mode_of l.mode) (stack l.stack);
-  building : l.stack.building ≡ true;
-}
+invariant-loop-token l = Left l.names (map (item_of l.text) l.tokens) l.token-index (mode_of l.mode) (stack l.machine)

@@ -6,8 +6,7 @@ use Rattle.lego_parser.proofs.scan.Scan.over.Goals.{then-level-gt-MAX_LEVEL, els
 
 pub loop-index-init : goal.loop-index-init
 loop-index-init c = record {
-  shape = c.new-stack.ensures.building;
-  there = λ bytes. cc (c.new-stack.ensures.empty, c.mode-mode.ensures);
+  there = λ bytes. cc (c.new-machine.ensures, c.mode-mode.ensures);
   depth = deep_none c.args.tokens.now c.args.start;
 }
 
@@ -17,17 +16,14 @@ loop-index-preserved c =
     let m = mode_at c.args.start in
     let i = c.loop-index.index in
     let before = c.loop-index.invariant in
-    let moves = rw c.in-Some.is at c.in_ok-next.ensures.moves in
-    let there = goes_on tokens m i _ _ _ _ c.loop-index-test.true before.shape before.there moves in
-    let shape = c.step.ensures.building ∙ before.shape in
+    let moves = rw c.in-Some.is at c.in_ok-next.ensures in
+    let there = goes_on tokens m i _ _ _ c.loop-index-test.true before.there moves in
     elim c.if-level-gt-MAX_LEVEL.branch [
       | then-level-gt-MAX_LEVEL w ↦ record {
-        shape = shape;
         there = rw w.mode-is there;
         depth = rw (w.deep-is, w.or-deep.ensures) (deeper tokens m i _ c.loop-index.deep there (subst (λ n. 500 < n) c.level.ensures w.if-level-gt-MAX_LEVEL.true) before.depth);
       }
       | else-level-gt-MAX_LEVEL w ↦ record {
-        shape = shape;
         there = rw w.mode-is there;
         depth = rw w.deep-is (no_deeper tokens m i _ c.loop-index.deep there (subst (λ n. n ≤ 500) c.level.ensures w.if-level-gt-MAX_LEVEL.false) before.depth);
       }
@@ -39,8 +35,8 @@ returns-in_default c =
     let m = mode_at c.args.start in
     let i = c.loop-index.index in
     let before = c.loop-index.invariant in
-    let stops = rw c.in_default.is at c.in_ok-next.ensures.moves in
-    let none = goes_on tokens m i _ _ _ _ c.loop-index-test.true before.shape before.there stops in
+    let stops = rw c.in_default.is at c.in_ok-next.ensures in
+    let none = goes_on tokens m i _ _ _ c.loop-index-test.true before.there stops in
     scanned tokens m i i c.loop-index.deep c.stage-stage.result _ refl (omega (arith, c.loop-index-test.true)) before.there (λ _. none) c.stage-stage.ensures before.depth
 
 pub returns : goal.returns

@@ -4,7 +4,7 @@ use Rattle.lego_grammar.specs.private.Machine.{Between as IsBetween}
 use Rattle.lego_parser.specs.private.Scanning.{IsStage}
 use Rattle.lego_grammar.specs.declared.command.Binding.{Binding}
 use Rattle.lego_parser.specs.declared.scan.Stage.TheVariants as Stage
-use Rattle.lego_parser.proofs.machine.stage_behind.Goals as goal
+use Rattle.lego_parser.proofs.modes.stage_behind.Goals as goal
 
 behind_one : (xs : List Binding) → 1 ≤ length xs → IsStage Stage.Behind (IsBetween (map built_binding xs))
 behind_one [] h = absurd (omega (arith, h))
