@@ -1,5 +1,5 @@
 //! Signatures: what the constants of terms stand for.
-ghost use Rattle.std.specs.Prelude.{◌≡◌, ◌<◌, ◌≤◌, ◌++◌, [], ◌∷◌, length, slice_get, option_map, Contains, OnOk, OnErr, IfSome};
+ghost use Rattle.std.specs.Prelude.{◌≡◌, ◌<◌, ◌≤◌, ◌++◌, [], ◌∷◌, length, nat_eq, position, slice_get, option_map, Contains, OnOk, OnErr, IfSome};
 ghost use Rattle.std.specs.Option.{option_copied};
 ghost use Rattle.lego_term.specs.Trees.{loose};
 ghost use Rattle.lego_term.specs.BodyMap.{bodies_in};
@@ -64,6 +64,20 @@ impl Signature {
         ensures { option_copied result ≡ slice_get self.now at }
     {
         self.entries.get(at)
+    }
+
+    /// All entries, in order.
+    pub fn entries(&self) -> &[Entry]
+        ensures { result.now ≡ self.now }
+    {
+        &self.entries
+    }
+
+    /// The place of the entry of a number.
+    pub fn position(&self, number: u32) -> Option<usize>
+        ensures { result ≡ position (nat_eq number) (numbers_of self.now) }
+    {
+        self.numbers.get_index_of(&number)
     }
 
     /// The entry of a number.
