@@ -1,0 +1,6 @@
+pub mod EntryLemmas
+pub mod NameLemmas
+pub mod NumberLemmas
+pub mod ContextLemmas
+pub mod FitLemmas
+pub mod CauseLemmas
