@@ -3,4 +3,7 @@ pub mod NameLemmas
 pub mod NumberLemmas
 pub mod ContextLemmas
 pub mod FitLemmas
+pub mod TypingLemmas
 pub mod CauseLemmas
+pub mod StoreLemmas
+pub mod NextLemmas

@@ -12,9 +12,9 @@ pub(crate) fn next_free(signature: &Signature, from: u32) -> u32
     ensures { IsLeastFree signature.now result }
 {
     for number in from..65_537 {
-        if signature.position(number).is_none() {
+        let Some(_) = signature.position(number) else {
             return number;
-        }
+        };
     }
     unreachable!()
 }

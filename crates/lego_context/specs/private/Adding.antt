@@ -69,6 +69,7 @@ pub data EnterFails (es : List Item) : TypeFault → Type 0 where
 -- the body's type is judged: the written one, else its rule type
 pub record IsJudged (c : Contents) (body : Core) (written : Option Core) (asked : At) (judged : Judged) : Type 0 where
   pub fits : FitsDefinition c.levels judged.levels (laws_entries c.entries) body written judged.ty (pairs_of judged.constraints)
+  pub type_held : levels_bound judged.ty ≤ judged.levels
   pub gathered : AreGathered (body_task c body written) asked.place judged.constraints judged.levels
 
 abbrev pub Judges : Contents → Core → Option Core → At → Result Judged TypeFault → Type 0

@@ -1,5 +1,5 @@
 //! Entries that go behind the others.
-ghost use Rattle.std.specs.Prelude.{◌≡◌, ◌++◌, [], ◌∷◌, Contains, Some, OnOk, OnErr, IfErr, IfSome};
+ghost use Rattle.std.specs.Prelude.{◌≡◌, ◌<◌, ◌≤◌, ◌++◌, [], ◌∷◌, length, Contains, Some, OnOk, OnErr, IfErr, IfSome};
 ghost use Rattle.lego_term.specs.Trees.{loose};
 ghost use Rattle.lego_inference.specs.Entries.{numbers_of};
 ghost use Rattle.lego_context.specs.Causes.{IsNewName};
@@ -40,6 +40,7 @@ fn enter(
     name: u32,
     entry: Entry,
 ) -> Result<(), TypeFault>
+    requires few { length signature.old ≤ 65536 }
     requires named { entry.name ≡ Some name }
     requires new { IsNewName signature.old name }
     requires number { Contains (numbers_of signature.old) entry.number → ⊥ }
@@ -47,6 +48,7 @@ fn enter(
     requires closed_body { IfSome entry.body (λ m. loose m ≡ 0) }
     requires places { names.old.entries ≡ places_from 0 signature.old }
     ensures entered { OnOk result (signature.new ≡ signature.old ++ entry ∷ []) }
+    ensures room { OnOk result (length signature.old < 65536) }
     ensures places { OnOk result (names.new.entries ≡ places_from 0 signature.new) }
     ensures kept { OnErr result (signature.new ≡ signature.old) }
     ensures places_kept { OnErr result (names.new.entries ≡ names.old.entries) }

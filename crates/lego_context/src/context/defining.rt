@@ -24,7 +24,7 @@ impl Context {
         asked: At,
     ) -> Result<(), TypeFault>
         requires { CanTakeBody self.old body.now (option_copied ty) }
-        ensures { Defines self.old name body.now (option_copied ty) asked self.new result }
+        ensures { Defines self.old name body.now (option_copied ty.entry) asked self.new result }
     {
         if let Some(at) = self.position(name) {
             return Err(TypeFault::NameInUse { at });
@@ -46,7 +46,7 @@ impl Context {
     /// The type of a body: the written one, else the inferred one.
     fn judge(&self, body: &Term, ty: Option<&Term>, asked: At) -> Result<Judged, TypeFault>
         requires { CanTakeBody self.now body.now (option_copied ty) }
-        ensures { Judges self.now body.now (option_copied ty) asked result }
+        ensures { Judges self.now body.now (option_copied ty.entry) asked result }
     {
         let locals = Locals::new(self.alloc);
         match ty {
