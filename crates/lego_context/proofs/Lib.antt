@@ -2,6 +2,7 @@ pub mod EntryLemmas
 pub mod NameLemmas
 pub mod NumberLemmas
 pub mod ContextLemmas
+pub mod PureLemmas
 pub mod FitLemmas
 pub mod TypingLemmas
 pub mod CauseLemmas

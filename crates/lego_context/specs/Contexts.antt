@@ -1,5 +1,8 @@
 -- What a context is.
 use Rattle.std.specs.Prelude.{ℕ, ◌<◌, ◌≤◌, List, [], take, length, All}
+use Rattle.lego_term.specs.Levels.{Assignment, SatisfiesAll}
+use Rattle.lego_laws.specs.Entries.{entries_at, kept}
+use Rattle.lego_laws.specs.Expansion.{HoldsPurely}
 use Rattle.lego_laws.specs.Valid.{AlwaysValid}
 use Rattle.lego_laws.specs.Principal.{entries_bound}
 use Rattle.lego_level.specs.Graphs.{CanBeSatisfiedWithin}
@@ -35,3 +38,8 @@ pub record IsContext (c : Contents) : Type 0 where
   pub few_levels : c.levels ≤ 1048576
   pub entries_held : entries_bound (laws_entries c.entries) ≤ c.levels
   pub universes_held : All (λ u. u.variable < c.levels) c.universes
+
+-- At each assignment that satisfies the constraints, the entries hold by Luo's thirteen rules alone: each assumption's type is a
+-- type, and each definition's body has its type, with the definitions before it expanded.
+abbrev pub HoldsByLuosRules : Contents → Type 0
+HoldsByLuosRules c = (v : Assignment) → SatisfiesAll v (kept (laws_entries c.entries)) → HoldsPurely (entries_at v (laws_entries c.entries))

@@ -6,7 +6,7 @@ ghost use Rattle.lego_term.specs.BodyMap.{bodies_in};
 ghost use Rattle.lego_laws.specs.Entries.{core_bodies};
 ghost use Rattle.lego_inference.specs.Entries.{laws_entries};
 ghost use Rattle.lego_context.specs.Entries.{position_of, place_of_number};
-ghost use Rattle.lego_context.specs.Contexts.{IsContext, empty};
+ghost use Rattle.lego_context.specs.Contexts.{IsContext, HoldsByLuosRules, empty};
 
 mod adding;
 mod assuming;
@@ -74,6 +74,7 @@ impl Context {
     pub fn len(&self) -> usize
         ensures exact { result ≡ length self.now.entries }
         ensures context { IsContext self.now }
+        ensures pure { HoldsByLuosRules self.now }
     {
         self.signature.len()
     }
