@@ -8,3 +8,7 @@ pub mod TypingLemmas
 pub mod CauseLemmas
 pub mod StoreLemmas
 pub mod NextLemmas
+pub mod CutLemmas
+pub mod SettleLemmas
+pub mod VariableLemmas
+pub mod ListLemmas

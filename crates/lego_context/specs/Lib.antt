@@ -6,4 +6,5 @@ pub mod Changes
 pub mod Calls
 pub mod Settling
 pub mod Forgetting
+pub mod Cutting
 pub mod private

@@ -10,7 +10,10 @@ ghost use Rattle.lego_context.specs.Contexts.{IsContext, HoldsByLuosRules, empty
 
 mod adding;
 mod assuming;
+mod copying;
+mod cutting;
 mod defining;
+mod forgetting;
 mod levels;
 mod settling;
 mod typing;

@@ -5,5 +5,6 @@
 mod admission;
 mod context;
 mod numbers;
+mod variables;
 
 pub use context::Context;
