@@ -12,6 +12,8 @@ pub mod PairRule
 pub mod WholeLemmas
 pub mod LocalLemmas
 pub mod SignatureLemmas
+pub mod SignatureCuts
+pub mod SignatureLists
 pub mod JudgeLemmas
 pub mod ArmLemmas
 pub mod SizeLemmas

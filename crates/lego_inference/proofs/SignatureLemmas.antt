@@ -63,7 +63,7 @@ find_none es number h = by_test (nat_lt (position_or_len (nat_eq number) (number
         sym (at_place es number) ∙ ap (option_map laws_entry) past
 
 -- the entry of a number is that of the front, or else the last
-entry_last : (es : List Item) (e : Item) (k : ℕ) → entry_of (laws_entries (es ++ e ∷ [])) k ≡ or_else (entry_of (laws_entries es) k) (if nat_eq e.number k then Some (laws_entry e) else None)
+pub entry_last : (es : List Item) (e : Item) (k : ℕ) → entry_of (laws_entries (es ++ e ∷ [])) k ≡ or_else (entry_of (laws_entries es) k) (if nat_eq e.number k then Some (laws_entry e) else None)
 entry_last [] e k = refl
 entry_last (x ∷ es) e k = by_test (nat_eq x.number k) refl (entry_last es e k)
   where
@@ -121,7 +121,7 @@ module _ (es : List Item) (e : Item) (new : Contains (numbers_of es) e.number �
 none_at : (k : ℕ) → bodies_in empty k ≡ core_bodies (laws_entries []) k
 none_at k = get-empty nat_cmp k
 
-no_bodies : bodies_in empty ≡ core_bodies (laws_entries [])
+pub no_bodies : bodies_in empty ≡ core_bodies (laws_entries [])
 no_bodies = fun_ext none_at
 
 pub new_signature : (es : List Item) (keys : List ℕ) (bodies : BodyMap) → es ≡ [] → keys ≡ [] → bodies ≡ empty → AreClosedEntries (laws_entries es) × (keys ≡ numbers_of es) × (bodies_in bodies ≡ core_bodies (laws_entries es))
@@ -138,7 +138,7 @@ told k n h = by_order (nat_cmp k n) refl
     by_order Greater is = let no : false ≡ true = rw is at h in absurd (cc)
 
 -- the order of numbers tells two apart as their equality does
-same_test : (k n : ℕ) → eq_by_cmp nat_cmp k n ≡ nat_eq n k
+pub same_test : (k n : ℕ) → eq_by_cmp nat_cmp k n ≡ nat_eq n k
 same_test k n = by_tests (eq_by_cmp nat_cmp k n) (nat_eq n k) refl refl
   where
     by_tests : (b c : Bool) → eq_by_cmp nat_cmp k n ≡ b → nat_eq n k ≡ c → eq_by_cmp nat_cmp k n ≡ nat_eq n k
@@ -163,10 +163,10 @@ body_at es e k (Some y) is none true t = absurd (let h = none t in cc)
 body_at es e k (Some y) is none false t = refl
 
 module _ (es : List Item) (e : Item) (new : Contains (numbers_of es) e.number → ⊥) where
-  no_other : (k : ℕ) → nat_eq e.number k ≡ true → entry_of (laws_entries es) k ≡ None
+  pub no_other : (k : ℕ) → nat_eq e.number k ≡ true → entry_of (laws_entries es) k ≡ None
   no_other k t = let same : e.number ≡ k = grind (arith, nat_tests) in subst (λ z. entry_of (laws_entries es) z ≡ None) same (absent es e.number new)
 
-  bodies_now : (k : ℕ) → core_bodies (laws_entries (es ++ e ∷ [])) k ≡ (if nat_eq e.number k then or_else e.body (core_bodies (laws_entries es) k) else core_bodies (laws_entries es) k)
+  pub bodies_now : (k : ℕ) → core_bodies (laws_entries (es ++ e ∷ [])) k ≡ (if nat_eq e.number k then or_else e.body (core_bodies (laws_entries es) k) else core_bodies (laws_entries es) k)
   bodies_now k = ap (option_and_then (λ (y : Entry). y.body)) (entry_last es e k) ∙ body_at es e k (entry_of (laws_entries es) k) refl (no_other k) (nat_eq e.number k) refl
 
   put_at : (bodies : BodyMap) (o : Option Core) (k : ℕ) → bodies_in (with_body bodies e.number o) k ≡ (if nat_eq e.number k then or_else o (bodies_in bodies k) else bodies_in bodies k)
@@ -177,7 +177,7 @@ module _ (es : List Item) (e : Item) (new : Contains (numbers_of es) e.number �
       by_test false = refl
   put_at bodies (Some m) k = get-insert nat_cmp_total bodies e.number m k ∙ ap (λ b. cond b (Some m) (bodies_in bodies k)) (same_test k e.number)
 
-  bodies_push : (bodies : BodyMap) → bodies_in bodies ≡ core_bodies (laws_entries es) → bodies_in (with_body bodies e.number e.body) ≡ core_bodies (laws_entries (es ++ e ∷ []))
+  pub bodies_push : (bodies : BodyMap) → bodies_in bodies ≡ core_bodies (laws_entries es) → bodies_in (with_body bodies e.number e.body) ≡ core_bodies (laws_entries (es ++ e ∷ []))
   bodies_push bodies are = fun_ext at_number
     where
       at_number : (k : ℕ) → bodies_in (with_body bodies e.number e.body) k ≡ core_bodies (laws_entries (es ++ e ∷ [])) k

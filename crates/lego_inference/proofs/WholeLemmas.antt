@@ -60,9 +60,10 @@ module _ (es : List Entry) (limit : ℕ) (s : Site) (m : Core) (fault : TypeFaul
       (λ ps. IsReached.root ps (λ b e. let same : a ≡ b = cc in subst (λ z. IsShaped es (behind (nodes m) s) z AType) same shaped))
 
 module _ (es : List Entry) (place : Place) (s : Site) (m : Core) where
-  gathered : (aim : Aim) (k : List Constraint) (a : Core) → Inferred es place s m k a → allowance (task es s m aim) ≡ nodes m → HasShape (task es s m aim) → AreGathered (task es s m aim) place k (s.first + nodes m)
-  gathered aim k a j count shape = record {
+  gathered : (aim : Aim) (k : List Constraint) (a : Core) → Inferred es place s m k a → allowance (task es s m aim) ≡ nodes m → s.first + nodes m ≤ 1048576 → HasShape (task es s m aim) → AreGathered (task es s m aim) place k (s.first + nodes m)
+  gathered aim k a j count few shape = record {
     count = ap (λ n. s.first + n) (sym count);
+    within = few;
     of_core = j.of_core (record { site = s; core = m; aim = aim }) (want_of aim) (Stands.in_core Within.itself);
     placed = j.placed;
     shape = shape;
@@ -71,23 +72,27 @@ module _ (es : List Entry) (place : Place) (s : Site) (m : Core) where
   only_core : (aim : Aim) → ((a : Core) → aim ≡ OfWrittenType a → ⊥) → IsShaped es s m (want_of aim) → HasShape (task es s m aim)
   only_core aim none shaped = record { core = shaped; written = λ a e. absurd (none a e) }
 
-  judged_by : (aim : Aim) (k : List Constraint) (a : Core) → Inferred es place s m k a → allowance (task es s m aim) ≡ nodes m → HasShape (task es s m aim) → IsInferred (task es s m aim) place (record { ty = a; constraints = k; levels = s.first + nodes m })
-  judged_by aim k a j count shape = record { rule = j.rule; fits = j.fits; gathered = gathered aim k a j count shape }
+  judged_by : (aim : Aim) (k : List Constraint) (a : Core) → Inferred es place s m k a → allowance (task es s m aim) ≡ nodes m → s.first + nodes m ≤ 1048576 → HasShape (task es s m aim) → IsInferred (task es s m aim) place (record { ty = a; constraints = k; levels = s.first + nodes m })
+  judged_by aim k a j count few shape = record { rule = j.rule; fits = j.fits; gathered = gathered aim k a j count few shape }
 
-  pub inferred_whole : (k : List Constraint) (a : Core) (judged : Judged) → Inferred es place s m k a → judged ≡ record { ty = a; constraints = k; levels = s.first + nodes m } → IsInferred (task es s m AnyType) place judged
-  inferred_whole k a judged j e = subst (IsInferred (task es s m AnyType) place) (sym e) (judged_by AnyType k a j (omega arith) (only_core AnyType (λ b f. cc) (shaped_nothing j.parts)))
+  -- the answered level variables are within the limit
+  few_of : {judged : Judged} {a : Core} {k : List Constraint} {n : ℕ} → judged.levels ≤ 1048576 → judged ≡ record { ty = a; constraints = k; levels = n } → n ≤ 1048576
+  few_of few e = subst (λ (n : ℕ). n ≤ 1048576) (ap (λ (j : Judged). j.levels) e) few
 
-  pub type_whole : (k : List Constraint) (a : Core) (sort : Option Level) (judged : Judged) → Inferred es place s m k a → HeadForm (core_bodies es) a (sort_term sort) → judged ≡ record { ty = a; constraints = k; levels = s.first + nodes m } → IsInferredType (task es s m BeAType) place judged
-  type_whole k a sort judged j head e =
+  pub inferred_whole : (k : List Constraint) (a : Core) (judged : Judged) → judged.levels ≤ 1048576 → Inferred es place s m k a → judged ≡ record { ty = a; constraints = k; levels = s.first + nodes m } → IsInferred (task es s m AnyType) place judged
+  inferred_whole k a judged few j e = subst (IsInferred (task es s m AnyType) place) (sym e) (judged_by AnyType k a j (omega arith) (few_of few e) (only_core AnyType (λ b f. cc) (shaped_nothing j.parts)))
+
+  pub type_whole : (k : List Constraint) (a : Core) (sort : Option Level) (judged : Judged) → judged.levels ≤ 1048576 → Inferred es place s m k a → HeadForm (core_bodies es) a (sort_term sort) → judged ≡ record { ty = a; constraints = k; levels = s.first + nodes m } → IsInferredType (task es s m BeAType) place judged
+  type_whole k a sort judged few j head e =
       subst (IsInferredType (task es s m BeAType) place) (sym e) (record {
-        inferred = judged_by BeAType k a j (omega arith) (only_core BeAType (λ b f. cc) (shaped_head j.parts j.rule head WantsHead.a_type (sort_fulfils sort)));
+        inferred = judged_by BeAType k a j (omega arith) (few_of few e) (only_core BeAType (λ b f. cc) (shaped_head j.parts j.rule head WantsHead.a_type (sort_fulfils sort)));
         sort = sort;
         head = head;
       })
 
-  check_split : (want have : Core) (own more : List Constraint) → levels_bound want ≤ s.first → Inferred es place s m own have → IsDecidedBy Cumulativity (core_bodies es) have want place more
+  check_split : (want have : Core) (own more : List Constraint) → levels_bound want ≤ s.first → s.first + nodes m ≤ 1048576 → Inferred es place s m own have → IsDecidedBy Cumulativity (core_bodies es) have want place more
       → IsChecked (task es s m (OfType want)) want place (record { ty = want; constraints = own ++ more; levels = s.first + nodes m })
-  check_split want have own more within j decided = record {
+  check_split want have own more within few j decided = record {
     type = refl;
     fits = λ held c is_type.
         let fm = j.fits held c in
@@ -97,20 +102,21 @@ module _ (es : List Entry) (place : Place) (s : Site) (m : Core) where
         (fits_against s.first (s.first + nodes m) (core_types es) (core_bodies es) held s.types c m have want (pairs_of own) (pairs_of more) within fm asked is_type decided.exact);
     gathered = record {
       count = omega arith;
+      within = few;
       of_core = of_both (task es s m (OfType want)) own more (j.of_core (record { site = s; core = m; aim = OfType want }) (Stated want) (Stands.in_core Within.itself)) (decided_of_core j.rule decided (record { site = s; core = m; aim = OfType want }) (Stands.in_core Within.itself));
       placed = at_both place own more j.placed decided.placed;
       shape = only_core (OfType want) (λ b f. cc) (shaped_stated j.parts j.rule decided.zero);
     };
   }
 
-  pub check_whole : (want : Core) (k : List Constraint) (judged : Judged) → levels_bound want ≤ s.first → HasStated es place s m k want → judged ≡ record { ty = want; constraints = k; levels = s.first + nodes m } → IsChecked (task es s m (OfType want)) want place judged
-  check_whole want k judged within h e =
+  pub check_whole : (want : Core) (k : List Constraint) (judged : Judged) → judged.levels ≤ 1048576 → levels_bound want ≤ s.first → HasStated es place s m k want → judged ≡ record { ty = want; constraints = k; levels = s.first + nodes m } → IsChecked (task es s m (OfType want)) want place judged
+  check_whole want k judged few within h e =
       subst (IsChecked (task es s m (OfType want)) want place) (sym (e ∙ ap (λ z. record { ty = want; constraints = z; levels = s.first + nodes m }) h.split))
-      (check_split want h.have h.own h.more within h.inferred h.decided)
+      (check_split want h.have h.own h.more within (few_of few e) h.inferred h.decided)
 
-  written_split : (a have : Core) (km kt more : List Constraint) (sort : Option Level) → levels_bound a ≤ s.first → Inferred es place s m km have → IsTypeBy es place (behind (nodes m) s) a kt sort → IsDecidedBy Cumulativity (core_bodies es) have a place more
+  written_split : (a have : Core) (km kt more : List Constraint) (sort : Option Level) → levels_bound a ≤ s.first → s.first + nodes m + nodes a ≤ 1048576 → Inferred es place s m km have → IsTypeBy es place (behind (nodes m) s) a kt sort → IsDecidedBy Cumulativity (core_bodies es) have a place more
       → IsCheckedWritten (task es s m (OfWrittenType a)) a place (record { ty = a; constraints = km ++ (kt ++ more); levels = s.first + nodes m + nodes a })
-  written_split a have km kt more sort within j t decided = record {
+  written_split a have km kt more sort within few j t decided = record {
     type = refl;
     fits = λ held c.
         let fm = j.fits held c in
@@ -122,6 +128,7 @@ module _ (es : List Entry) (place : Place) (s : Site) (m : Core) where
         (fits_written s.first (s.first + nodes m) (s.first + nodes m + nodes a) (core_types es) (core_bodies es) held s.types c m have a t.ty (pairs_of km) (pairs_of kt) (pairs_of more) within fm ft sort t.head asked decided.exact);
     gathered = record {
       count = omega arith;
+      within = few;
       of_core = of_both (task es s m (OfWrittenType a)) km (kt ++ more) (j.of_core (record { site = s; core = m; aim = OfWrittenType a }) (Stated a) (Stands.in_core Within.itself))
           (of_both (task es s m (OfWrittenType a)) kt more (t.inferred.of_core (record { site = s; core = m; aim = OfWrittenType a }) AType (Stands.in_written refl Within.itself)) (decided_of_core j.rule decided (record { site = s; core = m; aim = OfWrittenType a }) (Stands.in_core Within.itself)));
       placed = at_both place km (kt ++ more) j.placed (at_both place kt more t.inferred.placed decided.placed);
@@ -132,8 +139,8 @@ module _ (es : List Entry) (place : Place) (s : Site) (m : Core) where
     };
   }
 
-  pub written_whole : (a have : Core) (km kt more : List Constraint) (sort : Option Level) (judged : Judged) → levels_bound a ≤ s.first → Inferred es place s m km have → IsTypeBy es place (behind (nodes m) s) a kt sort → IsDecidedBy Cumulativity (core_bodies es) have a place more
+  pub written_whole : (a have : Core) (km kt more : List Constraint) (sort : Option Level) (judged : Judged) → judged.levels ≤ 1048576 → levels_bound a ≤ s.first → Inferred es place s m km have → IsTypeBy es place (behind (nodes m) s) a kt sort → IsDecidedBy Cumulativity (core_bodies es) have a place more
       → judged ≡ record { ty = a; constraints = (km ++ kt) ++ more; levels = s.first + nodes m + nodes a } → IsCheckedWritten (task es s m (OfWrittenType a)) a place judged
-  written_whole a have km kt more sort judged within j t decided e =
+  written_whole a have km kt more sort judged few within j t decided e =
       subst (IsCheckedWritten (task es s m (OfWrittenType a)) a place) (sym (e ∙ ap (λ z. record { ty = a; constraints = z; levels = s.first + nodes m + nodes a }) (append_assoc km kt more)))
-      (written_split a have km kt more sort within j t decided)
+      (written_split a have km kt more sort within (few_of few e) j t decided)

@@ -1,5 +1,5 @@
 -- What a check answers behind Ok.
-use Rattle.std.specs.Prelude.{◌≡◌, ℕ, ◌+◌, List, map, All, Some, None, Option}
+use Rattle.std.specs.Prelude.{◌≡◌, ℕ, ◌+◌, ◌≤◌, List, map, All, Some, None, Option}
 use Rattle.lego_base.specs.declared.place.Place.{Place}
 use Rattle.lego_term.specs.declared.level.Level.{Level}
 use Rattle.lego_term.specs.Levels.{Assignment, LevelPair, SatisfiesAll}
@@ -16,9 +16,10 @@ use Rattle.lego_level.specs.Graphs.{pairs_of}
 use Rattle.lego_inference.specs.declared.entry.Judged.{Judged}
 
 -- The constraints that a check gathers: each is one of the core, at the place of the check; the core has its shape; and the level
--- variables below `levels` are those held, and one for each node.
+-- variables below `levels` are those held, and one for each node, within the limit.
 pub record AreGathered (t : Task) (place : Place) (more : List Constraint) (levels : ℕ) : Type 0 where
   pub count : levels ≡ t.site.first + allowance t
+  pub within : levels ≤ 1048576
   pub of_core : All (λ c. IsConstraintOfCore t c.low c.high) more
   pub placed : All (λ c. c.place ≡ Some place) more
   pub shape : HasShape t

@@ -1,6 +1,6 @@
 //! The calls that check a whole term: it is measured first, so that height and weight bound the
 //! check.
-ghost use Rattle.std.specs.Prelude.{◌≡◌};
+ghost use Rattle.std.specs.Prelude.{◌≡◌, ◌≤◌};
 ghost use Rattle.lego_inference.specs.Calls.{AreHeld, IsTermOver, task_over, Infers, InfersType, Checks, ChecksWritten};
 ghost use Rattle.lego_laws.specs.Places.{AnyType, BeAType, OfType, OfWrittenType};
 
@@ -133,6 +133,7 @@ fn judged(ty: Term, found: Gathered) -> Judged
     ensures ty { result.ty ≡ ty }
     ensures constraints { result.constraints ≡ found.constraints.items }
     ensures levels { result.levels ≡ found.levels }
+    ensures within { result.levels ≤ 1048576 }
 {
     Judged {
         ty,

@@ -1,8 +1,10 @@
 //! Entries of a context, and what a check is asked and answers.
+ghost use Rattle.std.specs.Prelude.{◌≡◌, IfOk};
 
 use lego_base::Place;
 use lego_level::Constraint;
 use lego_term::{List, Mark, Term};
+use std::alloc::{AllocError, Global};
 
 /// What an entry is. A hole has no name; a definition and a filled hole have a body.
 #[derive(Debug, Clone, Copy, PartialEq, Eq)]
@@ -28,6 +30,40 @@ pub struct Entry {
     pub body: Option<Term>,
     pub hypotheses: u32,
     pub constraints: List<Constraint>,
+}
+
+impl Entry {
+    /// An equal entry, which shares the terms.
+    pub fn copy(&self, alloc: Global) -> Result<Entry, AllocError>
+        ensures { IfOk result (λ copy. copy ≡ self.now) }
+    {
+        let ty = self.ty.share()?;
+        let body = share_body(&self.body)?;
+        let constraints = Vec::from_slice(alloc, self.constraints.items())?;
+        Ok(Entry {
+            number: self.number,
+            name: self.name,
+            mark: self.mark,
+            kind: self.kind,
+            ty,
+            body,
+            hypotheses: self.hypotheses,
+            constraints: List::of(constraints),
+        })
+    }
+}
+
+/// The same body, shared.
+fn share_body(body: &Option<Term>) -> Result<Option<Term>, AllocError>
+    ensures { IfOk result (λ shared. shared ≡ body.now) }
+{
+    match body {
+        Some(body) => {
+            let shared = body.share()?;
+            Ok(Some(shared))
+        }
+        None => Ok(None),
+    }
 }
 
 /// One written `Type`: its level variable, and where it is written.

@@ -3,7 +3,6 @@ ghost use Rattle.std.specs.Prelude.{◌≡◌, ◌+◌, ◌≤◌, ◌++◌, [],
 ghost use Rattle.lego_term.specs.Levels.{variable_level};
 ghost use Rattle.lego_inference.specs.declared.fault.Counted.TheVariants.{Levels};
 ghost use Rattle.lego_inference.specs.declared.fault.TypeFault.TheVariants.{Full};
-ghost use Rattle.lego_inference.specs.private.Gathering.{asked_at, asked_of_sort};
 
 use crate::fault::{Counted, TypeFault};
 use lego_base::Place;
@@ -20,11 +19,15 @@ pub(crate) const MAX_LEVELS: u32 = 1_048_576;
 pub(crate) struct Gathered {
     pub(crate) constraints: Vec<Constraint>,
     pub(crate) levels: u32,
+    ghost within: { levels ≤ 1048576 },
 }
 
 impl Gathered {
+    ghost use Rattle.lego_inference.specs.private.Gathering.{asked_at, asked_of_sort};
+
     /// Nothing yet, where so many level variables are held.
     pub(crate) fn new(alloc: Global, levels: u32) -> Gathered
+        requires { levels ≤ 1048576 }
         ensures constraints { result.constraints.items ≡ [] }
         ensures levels { result.levels ≡ levels }
     {

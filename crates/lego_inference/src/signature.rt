@@ -1,9 +1,10 @@
 //! Signatures: what the constants of terms stand for.
-ghost use Rattle.std.specs.Prelude.{◌≡◌, ◌<◌, ◌≤◌, ◌++◌, [], ◌∷◌, length, slice_get, option_map, Contains, OnOk, OnErr, IfSome};
-ghost use Rattle.std.specs.Option.{option_copied};
+ghost use Rattle.std.specs.Prelude.{◌≡◌, ◌<◌, ◌≤◌, ◌++◌, [], ◌∷◌, length, nat_eq, position, slice_get, option_map, Contains, IfOk, OnOk, OnErr, IfSome, IfNone};
+ghost use Rattle.std.specs.Option.{option_copied, option_to_list};
 ghost use Rattle.lego_term.specs.Trees.{loose};
 ghost use Rattle.lego_term.specs.BodyMap.{bodies_in};
 ghost use Rattle.lego_laws.specs.Entries.{core_bodies, entry_of};
+ghost use Rattle.lego_level.specs.Graphs.{Differ};
 ghost use Rattle.lego_inference.specs.Entries.{laws_entry, laws_entries, numbers_of, AreClosedEntries, with_body};
 
 use crate::entry::Entry;
@@ -52,6 +53,28 @@ impl Signature {
         }
     }
 
+    /// The entries, whose numbers differ, and which have no loose variables.
+    pub fn of(alloc: Global, entries: Vec<Entry>) -> Result<Signature, AllocError>
+        requires numbers { Differ (numbers_of entries.items) }
+        requires closed { AreClosedEntries (laws_entries entries.items) }
+        ensures { IfOk result (λ signature. signature ≡ entries.items) }
+    {
+        let mut numbers = IndexSet::new(alloc);
+        let mut bodies = Bodies::new(alloc);
+        for entry in &entries {
+            let Ok(_) = numbers.insert(entry.number) else {
+                return Err(AllocError);
+            };
+            keep_body(&mut bodies, entry)?;
+        }
+        Ok(Signature {
+            alloc,
+            entries,
+            numbers,
+            bodies,
+        })
+    }
+
     /// How many entries there are.
     pub fn len(&self) -> usize
         ensures { result ≡ length self.now }
@@ -64,6 +87,20 @@ impl Signature {
         ensures { option_copied result ≡ slice_get self.now at }
     {
         self.entries.get(at)
+    }
+
+    /// All entries, in order.
+    pub fn entries(&self) -> &[Entry]
+        ensures { result.now ≡ self.now }
+    {
+        &self.entries
+    }
+
+    /// The place of the entry of a number.
+    pub fn position(&self, number: u32) -> Option<usize>
+        ensures { result ≡ position (nat_eq number) (numbers_of self.now) }
+    {
+        self.numbers.get_index_of(&number)
     }
 
     /// The entry of a number.
@@ -106,6 +143,21 @@ impl Signature {
             unreachable!()
         };
         Ok(())
+    }
+
+    /// Takes away the last entry, whose number no other has.
+    pub fn pop(&mut self) -> Option<Entry>
+        ensures entries { self.old ≡ self.new ++ option_to_list result }
+        ensures number { IfSome result (λ e. Contains (numbers_of self.new) e.number → ⊥) }
+        ensures none { IfNone result (self.old ≡ []) }
+    {
+        let held = self.numbers.len();
+        let Some(entry) = self.entries.pop() else {
+            return None;
+        };
+        self.numbers.truncate(held - 1);
+        self.bodies.take(entry.number);
+        Some(entry)
     }
 
     /// The allocator. No entry has a loose variable.

@@ -52,5 +52,5 @@ returns-in_err-share c =
 pub returns : goal.returns
 returns c =
     let j = (at_site (λ z. ChecksAt (laws_entries c.args.signature.now) c.args.asked z c.args.m.now c.args.want.now c.new-found.result c.checked.new.found (Ok tt)) {l = c.in_ok-locals.locals} {n = c.new-found.result.levels} c.in_ok-locals.ensures c.new-found.ensures.levels c.in_ok-checked.ensures.judged) in
-    check_whole (laws_entries c.args.signature.now) c.args.asked.place (site_of c.args.locals.now c.args.levels) c.args.m.now c.args.want.now j.0 c.judged.result c.requires.wanted.levels_within j.2
+    check_whole (laws_entries c.args.signature.now) c.args.asked.place (site_of c.args.locals.now c.args.levels) c.args.m.now c.args.want.now j.0 c.judged.result c.judged.ensures.within c.requires.wanted.levels_within j.2
     (judged_is c.judged.result c.args.want.now j.0 (c.args.levels + nodes c.args.m.now) (c.judged.ensures.ty ∙ c.in_ok-share.ensures.same) (c.judged.ensures.constraints ∙ j.1.constraints ∙ ap (λ (z : List Constraint). z ++ j.0) c.new-found.ensures.constraints) (c.judged.ensures.levels ∙ j.1.levels ∙ ap (λ (z : ℕ). z + nodes c.args.m.now) c.new-found.ensures.levels))

@@ -78,5 +78,5 @@ returns c =
     let t = (at_site (λ z. FindsSort (laws_entries c.args.signature.now) c.args.asked z c.args.written.now c.judge.new.found c.type_at.new.found (Ok c.in_ok-type_at.field-0)) {l = c.judge.new.locals} {l' = c.args.locals.now} {n = c.judge.new.found.levels} {n' = c.args.levels + nodes c.args.m.now} (c.in_ok-have.ensures.kept ∙ c.in_ok-locals.ensures) (c.in_ok-have.ensures.judged.1.levels ∙ ap (λ (z : ℕ). z + nodes c.args.m.now) c.new-found.ensures.levels) c.in_ok-type_at.ensures.sort) in
     let more = subst (λ (z : List Local). Compares (laws_entries c.args.signature.now) c.args.asked (binders_of z) c.args.m.now c.in_ok-have.have c.args.written.now c.type_at.new.found c.compare.new.found (Ok tt)) (c.in_ok-type_at.ensures.kept ∙ (c.in_ok-have.ensures.kept ∙ c.in_ok-locals.ensures)) c.in_ok-compare.ensures in
     let both = adds_then (adds_then j.1 t.1 refl) more.1 refl in
-    written_whole (laws_entries c.args.signature.now) c.args.asked.place (site_of c.args.locals.now c.args.levels) c.args.m.now c.args.written.now c.in_ok-have.have j.0 t.0 more.0 c.in_ok-type_at.field-0 c.judged.result c.requires.written.levels_within j.2 t.2 more.2
+    written_whole (laws_entries c.args.signature.now) c.args.asked.place (site_of c.args.locals.now c.args.levels) c.args.m.now c.args.written.now c.in_ok-have.have j.0 t.0 more.0 c.in_ok-type_at.field-0 c.judged.result c.judged.ensures.within c.requires.written.levels_within j.2 t.2 more.2
     (judged_is c.judged.result c.args.written.now ((j.0 ++ t.0) ++ more.0) (c.args.levels + nodes c.args.m.now + nodes c.args.written.now) (c.judged.ensures.ty ∙ c.in_ok-share.ensures.same) (c.judged.ensures.constraints ∙ both.constraints ∙ ap (λ (z : List Constraint). z ++ ((j.0 ++ t.0) ++ more.0)) c.new-found.ensures.constraints) (let l = c.judged.ensures.levels in let k = both.levels in let n = c.new-found.ensures.levels in omega arith))

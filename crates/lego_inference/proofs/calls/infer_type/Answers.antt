@@ -52,5 +52,5 @@ returns-in_err-sort_of c =
 pub returns : goal.returns
 returns c =
     let j = (at_site (λ z. Infers (laws_entries c.args.signature.now) c.args.asked z c.args.a.now c.new-found.result c.judge.new.found (Ok c.in_ok-ty.ty)) {l = c.in_ok-locals.locals} {n = c.new-found.result.levels} c.in_ok-locals.ensures c.new-found.ensures.levels c.in_ok-ty.ensures.judged) in
-    type_whole (laws_entries c.args.signature.now) c.args.asked.place (site_of c.args.locals.now c.args.levels) c.args.a.now j.0 c.in_ok-ty.ty c.in_ok-sort_of.field-0 c.judged.result j.2 c.in_ok-sort_of.ensures
+    type_whole (laws_entries c.args.signature.now) c.args.asked.place (site_of c.args.locals.now c.args.levels) c.args.a.now j.0 c.in_ok-ty.ty c.in_ok-sort_of.field-0 c.judged.result c.judged.ensures.within j.2 c.in_ok-sort_of.ensures
     (judged_is c.judged.result c.in_ok-ty.ty j.0 (c.args.levels + nodes c.args.a.now) c.judged.ensures.ty (c.judged.ensures.constraints ∙ j.1.constraints ∙ ap (λ (z : List Constraint). z ++ j.0) c.new-found.ensures.constraints) (c.judged.ensures.levels ∙ j.1.levels ∙ ap (λ (z : ℕ). z + nodes c.args.a.now) c.new-found.ensures.levels))

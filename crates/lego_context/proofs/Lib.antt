@@ -1,0 +1,14 @@
+pub mod EntryLemmas
+pub mod NameLemmas
+pub mod NumberLemmas
+pub mod ContextLemmas
+pub mod PureLemmas
+pub mod FitLemmas
+pub mod TypingLemmas
+pub mod CauseLemmas
+pub mod StoreLemmas
+pub mod NextLemmas
+pub mod CutLemmas
+pub mod SettleLemmas
+pub mod VariableLemmas
+pub mod ListLemmas

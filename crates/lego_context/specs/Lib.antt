@@ -1,0 +1,10 @@
+pub mod Entries
+pub mod Contexts
+pub mod ContentsCode
+pub mod Causes
+pub mod Changes
+pub mod Calls
+pub mod Settling
+pub mod Forgetting
+pub mod Cutting
+pub mod private

@@ -1,0 +1,5 @@
+-- Definitions that only private functions and proofs need.
+pub mod Kept
+pub mod Adding
+pub mod Cuts
+pub mod Lists
