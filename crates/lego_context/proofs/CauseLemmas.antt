@@ -7,7 +7,7 @@ use Rattle.lego_laws.specs.Principal.{AreSmall}
 use Rattle.lego_laws.specs.Shape.{IsTyped}
 use Rattle.lego_laws.specs.Tasks.{FitsTask, IsTypedWithin}
 use Rattle.lego_laws.specs.Valid.{AlwaysValid}
-use Rattle.lego_laws.proofs.Tasks.{unsolvable_tasks_have_no_typing, small_tasks_have_small_solutions}
+use Rattle.lego_laws.proofs.lemmas.principal.Tasks.{unsolvable_tasks_have_no_typing, small_tasks_have_small_solutions}
 use Rattle.lego_level.specs.declared.constraint.Constraint.{Constraint}
 use Rattle.lego_level.specs.Graphs.{pairs_of, IsCycle, Forces, CanBeSatisfied, CanBeSatisfiedWithin}
 use Rattle.lego_inference.specs.declared.entry.Entry.{Entry as Item}

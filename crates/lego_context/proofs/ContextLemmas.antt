@@ -14,13 +14,13 @@ use Rattle.lego_laws.specs.Valid.{AreValid, BodiesFit, AlwaysValid}
 use Rattle.lego_laws.specs.Principal.{core_types, entries_bound}
 use Rattle.lego_laws.specs.Ranges.{Context, locals_bound}
 use Rattle.lego_laws.specs.RuleTypeLaws.{AreScoped}
-use Rattle.lego_laws.proofs.Valued.{loose-map}
+use Rattle.lego_laws.proofs.lemmas.reduction.Valued.{loose-map}
 use Rattle.lego_term.specs.Levels.{level_value}
-use Rattle.lego_laws.proofs.EntriesAt.{entries_at_values, entries_and_locals_are_a_context}
-use Rattle.lego_laws.proofs.Entries.{types_closed, bodies_closed, loose_within}
-use Rattle.lego_laws.proofs.Rules.{known}
+use Rattle.lego_laws.proofs.lemmas.principal.EntriesAt.{entries_at_values, entries_and_locals_are_a_context}
+use Rattle.lego_laws.proofs.lemmas.typing.Entries.{types_closed, bodies_closed, loose_within}
+use Rattle.lego_laws.proofs.lemmas.typing.Rules.{known}
 use Rattle.lego_laws.specs.Derivations.{ValidLocals, v_none, v_local}
-use Rattle.lego_laws.proofs.TypingLaws.{constants_valid}
+use Rattle.lego_laws.proofs.lemmas.typing.TypingLaws.{constants_valid}
 use Rattle.lego_level.specs.Graphs.{pairs_of, CanBeSatisfiedWithin, Differ}
 use Rattle.lego_inference.specs.declared.entry.Entry.{Entry as Item}
 use Rattle.lego_inference.specs.declared.locals.Local.{Local}

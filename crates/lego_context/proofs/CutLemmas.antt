@@ -7,7 +7,7 @@ use Rattle.std.specs.List.{AllByRecursion}
 use Rattle.lego_term.specs.Levels.{SatisfiesAll}
 use Rattle.lego_laws.specs.Valid.{AlwaysValid}
 use Rattle.lego_laws.specs.Principal.{entries_bound}
-use Rattle.lego_laws.proofs.Satisfying.{satisfies_front}
+use Rattle.lego_laws.proofs.lemmas.inference.Satisfying.{satisfies_front}
 use Rattle.lego_level.specs.declared.constraint.Constraint.{Constraint}
 use Rattle.lego_level.specs.Graphs.{pair_of, pairs_of, Differ, CanBeSatisfiedWithin}
 use Rattle.lego_inference.specs.declared.entry.Entry.{Entry as Item}

@@ -7,7 +7,7 @@ use Rattle.lego_term.specs.Levels.{Assignment, LevelPair, SatisfiesAll}
 use Rattle.lego_laws.specs.Entries.{Entry, Constant, entry_at, entries_at, kept}
 use Rattle.lego_laws.specs.Principal.{entries_bound, body_bound}
 use Rattle.lego_laws.specs.Ranges.{levels_bound, pairs_bound}
-use Rattle.lego_laws.proofs.Satisfying.{satisfies_append, satisfies_front, satisfies_back}
+use Rattle.lego_laws.proofs.lemmas.inference.Satisfying.{satisfies_append, satisfies_front, satisfies_back}
 use Rattle.lego_level.specs.declared.constraint.Constraint.{Constraint}
 use Rattle.lego_level.specs.Graphs.{pair_of, pairs_of, Differ}
 use Rattle.lego_inference.specs.declared.entry.Entry.{Entry as Item}

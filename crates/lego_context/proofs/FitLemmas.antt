@@ -11,10 +11,10 @@ use Rattle.lego_laws.specs.Places.{AType, Fulfils, AnyType, BeAType, OfType, OfW
 use Rattle.lego_laws.specs.Principal.{core_types}
 use Rattle.lego_laws.specs.Ranges.{Context, FitsBetween, sort_term}
 use Rattle.lego_laws.specs.RuleTypes.{RuleType, nodes}
-use Rattle.lego_laws.proofs.EntriesAt.{types_at, bodies_at_values}
-use Rattle.lego_laws.proofs.PrincipalLaws.{principal_rule_types, principal_checks, principal_definitions}
-use Rattle.lego_laws.proofs.Rules.{derived}
-use Rattle.lego_laws.proofs.SolvedCores.{derives_over}
+use Rattle.lego_laws.proofs.lemmas.principal.EntriesAt.{types_at, bodies_at_values}
+use Rattle.lego_laws.proofs.lemmas.principal.PrincipalLaws.{principal_rule_types, principal_checks, principal_definitions}
+use Rattle.lego_laws.proofs.lemmas.typing.Rules.{derived}
+use Rattle.lego_laws.proofs.lemmas.principal.SolvedCores.{derives_over}
 use Rattle.lego_level.specs.Graphs.{pairs_of}
 use Rattle.lego_inference.specs.declared.entry.Judged.{Judged}
 use Rattle.lego_inference.specs.declared.locals.Local.{Local}

@@ -9,9 +9,9 @@ use Rattle.lego_laws.specs.Judgement.{Has, IsType}
 use Rattle.lego_laws.specs.Places.{Task, Aim}
 use Rattle.lego_laws.specs.Ranges.{levels_bound, pairs_bound}
 use Rattle.lego_laws.specs.Tasks.{FitsAim}
-use Rattle.lego_laws.proofs.Scoped.{rule_types_are_scoped}
-use Rattle.lego_laws.proofs.Tasks.{fitting_types_are_types}
-use Rattle.lego_laws.proofs.TypingLaws.{type_correctness_law}
+use Rattle.lego_laws.proofs.lemmas.principal.Scoped.{rule_types_are_scoped}
+use Rattle.lego_laws.proofs.lemmas.principal.Tasks.{fitting_types_are_types}
+use Rattle.lego_laws.proofs.lemmas.typing.TypingLaws.{type_correctness_law}
 use Rattle.lego_level.specs.Graphs.{pairs_of}
 use Rattle.lego_inference.specs.declared.entry.At.{At}
 use Rattle.lego_inference.specs.declared.entry.Judged.{Judged}

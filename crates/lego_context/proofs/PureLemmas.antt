@@ -1,6 +1,6 @@
 -- A context holds by Luo's rules alone.
 use Rattle.lego_laws.specs.Entries.{entries_at}
-use Rattle.lego_laws.proofs.ExpansionLaws.{expansion}
+use Rattle.lego_laws.proofs.lemmas.constants.ExpansionLaws.{expansion}
 use Rattle.lego_inference.specs.Entries.{laws_entries}
 use Rattle.lego_context.specs.Contexts.{Contents, IsContext, HoldsByLuosRules}
 

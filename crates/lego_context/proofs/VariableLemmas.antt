@@ -7,7 +7,7 @@ use Rattle.std.proofs.lemmas.List.Elements.{All-from_recursion}
 use Rattle.lego_laws.specs.Entries.{entry_uses, IsHeld}
 use Rattle.lego_laws.specs.Principal.{entries_bound, body_bound}
 use Rattle.lego_laws.specs.Ranges.{level_bound, levels_bound, pairs_bound}
-use Rattle.lego_laws.proofs.HeldWithin.{held_within}
+use Rattle.lego_laws.proofs.lemmas.principal.HeldWithin.{held_within}
 use Rattle.lego_level.specs.declared.constraint.Constraint.{Constraint}
 use Rattle.lego_level.specs.Graphs.{pairs_of}
 use Rattle.lego_inference.specs.declared.entry.Entry.{Entry as Item}

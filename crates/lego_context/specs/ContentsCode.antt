@@ -4,7 +4,7 @@ use Rattle.std.specs.Coded.{Coded, code_by, coded×, coded_ℕ, coded_list}
 use Rattle.lego_base.specs.declared.place.Place.{Place}
 use Rattle.lego_inference.specs.declared.entry.Entry.{Entry as Item}
 use Rattle.lego_inference.specs.declared.entry.Universe.{Universe}
-use Rattle.lego_inference.specs.EntryCode.{entry_code}
+use Rattle.lego_inference.specs.private.EntryCode.{entry_code}
 use Rattle.lego_context.specs.Contexts.{Contents}
 
 abbrev place_code : Coded Place
