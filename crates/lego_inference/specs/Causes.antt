@@ -55,6 +55,10 @@ pub data IsWhole (t : Task) : Core → Type 0 where
   core : IsWhole t t.core
   written : {a : Core} → t.aim ≡ OfWrittenType a → IsWhole t a
 
+-- what is checked as a whole is at most 2,000 high, and weighs at most 1,048,576
+abbrev pub AreMeasured : Task → Type 0
+AreMeasured t = (u : Core) → IsWhole t u → (height u ≤ 2000) × (weight u ≤ 1048576)
+
 -- Size and depth are those of a subtree over a limit, of a term that is met or passed; or one that is passed has too long a path,
 -- or a whole term is too high or too heavy.
 pub data TooLargeCause (limit : ℕ) (t : Task) : ℕ → ℕ → Type 0 where
