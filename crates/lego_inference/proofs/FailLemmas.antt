@@ -6,7 +6,6 @@ use Rattle.lego_term.specs.Made.{Fits}
 use Rattle.lego_term.specs.Parts.{IsTooLargeOnTheWay, tree}
 use Rattle.lego_laws.specs.Parallel.{AreClosed}
 use Rattle.lego_laws.specs.Entries.{Entry, core_bodies}
-use Rattle.lego_laws.specs.RuleTypes.{nodes}
 use Rattle.lego_laws.specs.Places.{Want, Nothing, Stated, Site, RuleTypeAt, Part, WantsHead, AreShaped, ArePartsShaped, Comes, IsReached, WantedHead, WantedPair, Fulfils, BelowAtZero}
 use Rattle.lego_laws.proofs.Shaped.{typed_cores_have_wanted_heads, typed_cores_have_wanted_pairs}
 use Rattle.lego_level.specs.declared.constraint.Constraint.{Constraint}
@@ -14,12 +13,12 @@ use Rattle.lego_compare.specs.Answers.{ReachesTooLarge}
 use Rattle.lego_inference.specs.declared.fault.Counted.TheVariants.{Levels}
 use Rattle.lego_inference.specs.declared.fault.TypeFault.{TypeFault}
 use Rattle.lego_inference.specs.declared.fault.TypeFault.TheVariants.{Full, Memory, TooLarge}
-use Rattle.lego_inference.specs.Causes.{WrongHead, BudgetCause, IsMet, IsPassed, TooLargeCause}
+use Rattle.lego_inference.specs.Causes.{WrongHead, BudgetCause, IsMet, IsPassed, TooLargeCause, TakesLevel, FullCause}
 use Rattle.lego_inference.specs.Failures.{TypeFails}
 use Rattle.lego_inference.specs.Locals.{seen_at}
 use Rattle.lego_inference.specs.private.Judging.{Root, task_on, Inferred, Fails, FailsAt, HeadFails, PairFails, MakingFails, wrong}
 use Rattle.lego_inference.proofs.SizeLemmas.{too_large_differs}
-use Rattle.lego_inference.proofs.PlaceLemmas.{comes_stands, comes_within, stands_part, wanted_stands, Standing}
+use Rattle.lego_inference.proofs.PlaceLemmas.{wanted_stands}
 
 something : {w : Want} → WantsHead w → w ≡ Nothing → ⊥
 something WantsHead.a_type e = cc
@@ -47,18 +46,18 @@ module _ {es : List Entry} {limit : ℕ} {s : Site} {m : Core} where
   pub fails_memory : Fails es limit s m Memory
   fails_memory = λ r w begun comes. TypeFails.memory
 
-  pub fails_full : 1048576 ≤ s.first → 0 < nodes m → Fails es limit s m (Full Levels 1048576)
-  fails_full le positive = λ r w begun comes. TypeFails.full begun.measured (let k = comes_within comes in omega arith)
+  pub fails_full : 1048576 ≤ s.first → TakesLevel m → Fails es limit s m (Full Levels 1048576)
+  fails_full le takes = λ r w begun comes. TypeFails.full begun.measured (FullCause.no_room comes takes le)
 
   -- a rule type that passes a limit
-  pub fails_made : {a : Core} {fault : TypeFault} → RuleTypeAt es s m a → MakingFails a fault → Fails es limit s m fault
-  fails_made rule (MakingFails.too_large l) = λ r w begun comes. TypeFails.too_large (TooLargeCause.met (IsMet.rule (comes_stands comes).stands rule) l)
-  fails_made rule MakingFails.memory = fails_memory
+  pub fails_made : {a : Core} {fault : TypeFault} → RuleTypeAt es s m a → ArePartsShaped es s m Nothing → MakingFails a fault → Fails es limit s m fault
+  fails_made rule parts (MakingFails.too_large l) = λ r w begun comes. TypeFails.too_large (TooLargeCause.met (IsMet.rule comes parts rule) l)
+  fails_made rule parts MakingFails.memory = fails_memory
 
   -- a part that passes a limit: the body of a local definition with the value put in
-  pub fails_put : {fault : TypeFault} {s' : Site} {m' : Core} {i : ℕ} → ((w : Want) → Part es s m w i s' m' w) → MakingFails m' fault → Fails es limit s m fault
-  fails_put p (MakingFails.too_large l) = λ r w begun comes. TypeFails.too_large (TooLargeCause.met (IsMet.stands (stands_part (comes_stands comes).stands (p (comes_stands comes).wanted))) l)
-  fails_put p MakingFails.memory = fails_memory
+  pub fails_put : {fault : TypeFault} {s' : Site} {m' : Core} {w' : Want} {i : ℕ} → Part es s m Nothing i s' m' w' → AreShaped es s m Nothing i → MakingFails m' fault → Fails es limit s m fault
+  fails_put p before (MakingFails.too_large l) = λ r w begun comes. TypeFails.too_large (TooLargeCause.met (IsMet.comes (Comes.part comes p before)) l)
+  fails_put p before MakingFails.memory = fails_memory
 
   -- whatever is wanted of the term
   pub at_any : {fault : TypeFault} (w : Want) → Fails es limit s m fault → FailsAt es limit s m w fault
@@ -86,7 +85,7 @@ module _ {es : List Entry} {limit : ℕ} {s : Site} {m : Core} where
       TypeFails.budget reached (BudgetCause.head (wanted judged kind r reached) more)
   at_head {w = w} closed kind judged (HeadFails.too_large i le after large) = λ r begun comes reach.
       let reached = reach judged.parts in
-      TypeFails.too_large (TooLargeCause.passed (IsPassed.head i (wanted judged kind r reached) le after) (tree large))
+      TypeFails.too_large (TooLargeCause.passed (IsPassed.head i reached (wanted judged kind r reached) le after) (tree large))
   at_head closed kind judged HeadFails.memory = λ r begun comes reach. TypeFails.memory
 
   -- the term's rule type isn't compared with the stated type, or is not below it
@@ -105,12 +104,12 @@ module _ {es : List Entry} {limit : ℕ} {s : Site} {m : Core} where
   at_pair closed judged (PairFails.too_large differ large) = λ r begun comes reach.
       let reached = reach judged.parts in
       let place = pair_at judged r reached in
-      TypeFails.too_large (⊎_elim (λ p. TooLargeCause.passed (IsPassed.have p.steps place differ p.within p.reaches) p.large) (λ p. TooLargeCause.passed (IsPassed.stated p.steps place differ p.within p.reaches) p.large) large)
+      TypeFails.too_large (⊎_elim (λ p. TooLargeCause.passed (IsPassed.have p.steps reached place differ p.within p.reaches) p.large) (λ p. TooLargeCause.passed (IsPassed.stated p.steps reached place differ p.within p.reaches) p.large) large)
   at_pair closed judged PairFails.memory = λ r begun comes reach. TypeFails.memory
 
   -- the stated type passes a limit, which the term's rule type doesn't
   pub at_stated : {place : Place} {k : List Constraint} {have want : Core} {fault : TypeFault} → Inferred es place s m k have → Fits have → MakingFails want fault → FailsAt es limit s m (Stated want) fault
   at_stated {have = have} {want = want} judged fits (MakingFails.too_large l) = λ r begun comes reach.
       let reached = reach judged.parts in
-      TypeFails.too_large (TooLargeCause.passed (IsPassed.stated 0 (pair_at judged r reached) (too_large_differs have want _ _ fits l) (omega arith) refl) (tree l))
+      TypeFails.too_large (TooLargeCause.passed (IsPassed.stated 0 reached (pair_at judged r reached) (too_large_differs have want _ _ fits l) (omega arith) refl) (tree l))
   at_stated judged fits MakingFails.memory = λ r begun comes reach. TypeFails.memory

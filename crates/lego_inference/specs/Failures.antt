@@ -8,8 +8,8 @@ use Rattle.lego_inference.specs.declared.fault.TypeFault.TheVariants.{NotAType, 
 use Rattle.lego_inference.specs.Locals.{seen_at}
 use Rattle.lego_inference.specs.Causes.{WrongHead, MismatchCause, BudgetCause, AreMeasured, TooLargeCause, FullCause}
 
--- The check of a task, within a limit of steps, is refused so: the fault has its cause, and what the check comes to before the
--- place has its shape.
+-- The check of a task, within a limit of steps, is refused so: the fault has its cause, at a place that the check comes to, so that
+-- all before it has its shape.
 pub data TypeFails (limit : ℕ) (t : Task) : TypeFault → Type 0 where
   not_a_type : {s : Site} {n got : Core}
       → IsReached t s n AType → WrongHead t s n AType got → TypeFails limit t (NotAType (seen_at s n) (seen_at s got))
