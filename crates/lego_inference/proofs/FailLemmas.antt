@@ -78,7 +78,7 @@ module _ {es : List Entry} {limit : ℕ} {s : Site} {m : Core} where
         head = h;
         is_head = p;
         unfit = unfit;
-        no_typing = λ v typed. unfit (typed_cores_have_wanted_heads (task_on es r) v closed begun.new typed s m w got h place p);
+        no_typing = λ v satisfied typed. unfit (typed_cores_have_wanted_heads (task_on es r) v closed begun.new typed s m w got h place p);
       })
   at_head {w = w} closed kind judged (HeadFails.budget more) = λ r begun comes reach.
       let reached = reach judged.parts in
@@ -96,7 +96,7 @@ module _ {es : List Entry} {limit : ℕ} {s : Site} {m : Core} where
       TypeFails.mismatch reached (record {
         place = place;
         apart = apart;
-        no_typing = λ v typed. apart (typed_cores_have_wanted_pairs (task_on es r) v closed begun.new typed s m have want place);
+        no_typing = λ v satisfied typed. apart (typed_cores_have_wanted_pairs (task_on es r) v closed begun.new typed s m have want place);
       })
   at_pair closed judged (PairFails.budget differ cost) = λ r begun comes reach.
       let reached = reach judged.parts in

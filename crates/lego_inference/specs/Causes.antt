@@ -8,11 +8,17 @@ use Rattle.lego_term.specs.Parts.{IsTooLarge, IsTooLargeOnTheWay}
 use Rattle.lego_term.specs.Sequences.{HeadForm, head_step, normal_step, after, MoreThan, CostMoreThan}
 use Rattle.lego_laws.specs.Entries.{core_bodies, kept}
 use Rattle.lego_laws.specs.Places.{Want, Nothing, Stated, Site, Task, OfWrittenType, Fulfils, WantedHead, WantedPair, IsFormer, RuleTypeAt, BelowAtZero, ArePartsShaped, Comes, IsReached}
+use Rattle.lego_laws.specs.Principal.{AreSmall}
 use Rattle.lego_laws.specs.Shape.{IsTyped}
+use Rattle.lego_laws.specs.Tasks.{IsTypedWithin}
 
--- no assignment at which the entries are valid gives the core its typing
+-- no assignment that satisfies the constraints kept with the entries gives the core its typing
 abbrev pub HasNoTyping : Task → Type 0
-HasNoTyping t = (v : Assignment) → IsTyped t v → ⊥
+HasNoTyping t = (v : Assignment) → SatisfiesAll v (kept t.entries) → IsTyped t v → ⊥
+
+-- no such assignment with values up to a limit gives it a typing whose universes are up to the limit
+abbrev pub HasNoTypingWithin : ℕ → Task → Type 0
+HasNoTypingWithin limit t = (v : Assignment) → SatisfiesAll v (kept t.entries) → AreSmall limit v → IsTypedWithin limit t v → ⊥
 
 -- a type, a function or a pair is wanted of the term; `got` is its rule type, and its head form is not of that form
 pub record WrongHead (t : Task) (s : Site) (term : Core) (wanted : Want) (got : Core) : Type 0 where
