@@ -1,17 +1,14 @@
 -- Why an entry is refused.
 use Rattle.std.specs.Prelude.{◌≡◌, ℕ, List, ◌++◌, length, All, Contains, Some}
-use Rattle.lego_term.specs.Levels.{Assignment, SatisfiesAll}
-use Rattle.lego_laws.specs.Entries.{kept}
 use Rattle.lego_laws.specs.Places.{Task, HasShape, IsConstraintOfCore}
-use Rattle.lego_laws.specs.Principal.{AreSmall}
-use Rattle.lego_laws.specs.Shape.{IsTyped}
-use Rattle.lego_laws.specs.Tasks.{FitsTask, IsTypedWithin}
+use Rattle.lego_laws.specs.Tasks.{FitsTask}
 use Rattle.lego_level.specs.declared.constraint.Constraint.{Constraint}
 use Rattle.lego_level.specs.Graphs.{pairs_of, IsCycle, Forces, CanBeSatisfied, CanBeSatisfiedWithin}
 use Rattle.lego_inference.specs.declared.entry.Entry.{Entry as Item}
 use Rattle.lego_inference.specs.declared.fault.Counted.TheVariants.{Entries}
 use Rattle.lego_inference.specs.declared.fault.TypeFault.{TypeFault}
 use Rattle.lego_inference.specs.declared.fault.TypeFault.TheVariants.{Universe, LevelTooBig, Full, NameInUse}
+use Rattle.lego_inference.specs.Causes.{HasNoTyping, HasNoTypingWithin}
 use Rattle.lego_inference.specs.Failures.{TypeFails}
 use Rattle.lego_context.specs.Entries.{names_of, position_of, constraints_of}
 
@@ -32,7 +29,7 @@ pub record UniverseCause (es : List Item) (t : Task) (cycle : List Constraint) :
   pub is_cycle : IsCycle (together es more) cycle
   pub unsatisfiable : CanBeSatisfied (together es more) → ⊥
   pub shape : HasShape t
-  pub no_typing : (v : Assignment) → SatisfiesAll v (kept t.entries) → IsTyped t v → ⊥
+  pub no_typing : HasNoTyping t
 
 -- The least solution of constraints that fit, together with those held, has a value over the limit, which the constraint forces.
 -- The core has its shape, and no typing within the limit.
@@ -41,7 +38,7 @@ pub record LevelTooBigCause (es : List Item) (t : Task) (constraint : Constraint
   pub asked : AreAsked t more
   pub forces : Forces (together es more) constraint needed
   pub shape : HasShape t
-  pub no_small_typing : (v : Assignment) → SatisfiesAll v (kept t.entries) → AreSmall 1000000 v → IsTypedWithin 1000000 t v → ⊥
+  pub no_small_typing : HasNoTypingWithin 1000000 t
 
 -- some constraints fit the typing of the core, and can be satisfied within the limit together with those held
 pub record IsAdmitted (es : List Item) (t : Task) : Type 0 where

@@ -79,7 +79,7 @@ module _ (es : List Entry) (asked : At) (s : Site) where
   -- local definitions
   module _ (x : Binder) (m n : Core) (old mid : Gathered) (tm : Core) (value : Infers es asked s m old mid (Ok tm)) where
     pub put_fails : (fault : TypeFault) → MakingFails (instantiate n m) fault → Fails es asked.limit s (Let x m n) fault
-    put_fails fault h = fails_put (λ w. Part.local_body) h
+    put_fails fault h = fails_put Part.local_body (next_shaped 0 none_before Part.local_value (shaped_nothing value.2.parts)) h
 
     pub local_body_fails : (fault : TypeFault) → Fails es asked.limit (behind (nodes m) s) (instantiate n m) fault → Fails es asked.limit s (Let x m n) fault
     local_body_fails fault f = fails_part Part.local_body (next_shaped 0 none_before Part.local_value (shaped_nothing value.2.parts)) f

@@ -22,6 +22,7 @@ use Rattle.lego_inference.specs.declared.gathered.Gathered.{Gathered}
 use Rattle.lego_inference.specs.declared.head.Former.{Former}
 use Rattle.lego_inference.specs.declared.rules.Formed.{Formed}
 use Rattle.lego_inference.specs.declared.locals.Local.{Local}
+use Rattle.lego_inference.specs.Causes.{TakesLevel}
 use Rattle.lego_inference.specs.Locals.{site_of, types_of}
 use Rattle.lego_inference.specs.private.Gathering.{asked_at, asked_of_former, asked_of_product, product_sort, FindsUniverse}
 use Rattle.lego_inference.specs.private.Judging.{IsReady, Inferred, Fails, FailsAt, Adds, Infers, IsTypeBy, FindsSort, HasStated, ChecksAt, IsFormed, Forms, IsPairOf, Projects, FindsHead, Compares, IsMade, sigma_of}
@@ -52,7 +53,7 @@ module _ (es : List Entry) (asked : At) (s : Site) where
   -- a rule type that is made
   pub made_infers : (m a : Core) (k : List Constraint) (old new : Gathered) (r : Result Core TypeFault) → Adds old new (nodes m) k → Inferred es asked.place s m k a → IsMade a r → Infers es asked s m old new r
   made_infers m a k old new (Ok made) adds j h = (k, adds, subst (Inferred es asked.place s m k) (sym h) j)
-  made_infers m a k old new (Err fault) adds j h = fails_made j.rule h
+  made_infers m a k old new (Err fault) adds j h = fails_made j.rule j.parts h
 
   pub prop_infers : (old : Gathered) (r : Result Core TypeFault) → IfOk r (λ ty. ty ≡ Univ (fixed_level 0)) → IfErr r (λ fault. fault ≡ Memory) → Infers es asked s Prop old old r
   prop_infers old (Ok ty) h e = ([], adds_none old, subst (Inferred es asked.place s Prop []) (sym h) (prop_inferred es asked.place s))
@@ -67,10 +68,10 @@ module _ (es : List Entry) (asked : At) (s : Site) where
   constant_infers k old (Err fault) h e = subst (Fails es asked.limit s (Const k)) (sym e) fails_memory
 
   -- there is no level variable for the node, or memory ran out
-  pub level_fails : (m : Core) (fault : TypeFault) → 0 < nodes m → ◌⊎◌ (fault ≡ Memory) ((fault ≡ Full Levels 1048576) × (1048576 ≤ s.first)) → Fails es asked.limit s m fault
-  level_fails m fault positive h =
+  pub level_fails : (m : Core) (fault : TypeFault) → TakesLevel m → ◌⊎◌ (fault ≡ Memory) ((fault ≡ Full Levels 1048576) × (1048576 ≤ s.first)) → Fails es asked.limit s m fault
+  level_fails m fault takes h =
       ⊎_elim (λ (e : fault ≡ Memory). subst (Fails es asked.limit s m) (sym e) fails_memory)
-      (λ (e : (fault ≡ Full Levels 1048576) × (1048576 ≤ s.first)). subst (Fails es asked.limit s m) (sym e.0) (fails_full e.1 positive)) h
+      (λ (e : (fault ≡ Full Levels 1048576) × (1048576 ≤ s.first)). subst (Fails es asked.limit s m) (sym e.0) (fails_full e.1 takes)) h
 
   -- a product, whose parts are types
   pub product_infers : (x : Binder) (a b : Core) (old mid new : Gathered) (f : Formed) (r : Result Core TypeFault) → IsReady es s (Pi x a b) → Forms es asked s x a b old mid (Ok f)
@@ -126,7 +127,7 @@ universe_infers es asked g xs l old new (Ok ty) le h = (
   record { constraints = h.1; levels = h.2 },
   subst (Inferred es asked.place (record { types = g; binders = xs; first = old.levels }) (Univ l) (asked_at (raised_level l) (variable_level old.levels) asked.place)) (sym h.0) (universe_inferred es asked.place (record { types = g; binders = xs; first = old.levels }) l le),
 )
-universe_infers es asked g xs l old new (Err fault) le h = level_fails es asked (record { types = g; binders = xs; first = old.levels }) (Univ l) fault (omega arith) h
+universe_infers es asked g xs l old new (Err fault) le h = level_fails es asked (record { types = g; binders = xs; first = old.levels }) (Univ l) fault TakesLevel.universe h
 
 -- what holds under a binder, by the names of the code and by the rules' site
 pub under_code : (P : Site → Type 0) (x : Binder) (a : Core) (l l₁ l₂ : List Local) (n n₁ : ℕ) → l₁ ≡ l → l₂ ≡ record { binder = x; ty = a } ∷ l₁ → n₁ ≡ n + nodes a → P (under x a (site_of l n)) → P (site_of l₂ n₁)

@@ -1,10 +1,8 @@
--- The places that a check comes to stand in its task, and their nodes are among the task's.
-use Rattle.std.proofs.Common.{◌≡◌, ℕ, ◌+◌, ◌≤◌, ◌⊎◌, inl, inr, refl, List, ⊎_elim, subst, sym, arith}
+-- The places that a check comes to stand in its task.
+use Rattle.std.proofs.Common.{◌≡◌, ℕ, ◌⊎◌, inl, inr, refl, List, ⊎_elim, subst, sym}
 use Rattle.lego_term.specs.Trees.{Core}
 use Rattle.lego_laws.specs.Entries.{Entry}
-use Rattle.lego_laws.specs.RuleTypes.{nodes}
-use Rattle.lego_laws.specs.Places.{Want, Nothing, AType, OfWrittenType, Site, Part, Within, Task, Stands, Comes, IsReached, allowance}
-use Rattle.lego_laws.proofs.lemmas.principal.Nodes.{parts_stand_apart}
+use Rattle.lego_laws.specs.Places.{Want, Nothing, AType, Site, Part, Within, Task, Stands, Comes, IsReached}
 
 -- a part stands where the whole does
 pub stands_part : {t : Task} {s s' : Site} {n n' : Core} {w w' : Want} {i : ℕ} → Stands t s n w → Part t.entries s n w i s' n' w' → Stands t s' n' w'
@@ -59,20 +57,3 @@ pub wanted_stands : {t : Task} {s : Site} {n : Core} {w : Want} → (w ≡ Nothi
 wanted_stands {t} {s} {n} {w} some r =
     let k = reached_stands r in
     ⊎_elim (λ (e : w ≡ k.wanted). subst (Stands t s n) (sym e) k.stands) (λ (e : w ≡ Nothing). absurd (some e)) k.alike
-
--- the nodes of a place are among those of the task
-within_part : (es : List Entry) (s s' : Site) (n n' : Core) (w w' : Want) (i end : ℕ) → Part es s n w i s' n' w' → s.first + nodes n ≤ end → s'.first + nodes n' ≤ end
-within_part es s s' n n' w w' i end p le = let k = (parts_stand_apart es s s' s' n n' n' w w' w' i i p p).1 in omega arith
-
-core_within : (t : Task) → t.site.first + nodes t.core ≤ t.site.first + allowance t
-core_within t = omega arith
-
-written_within : (t : Task) (a : Core) → t.aim ≡ OfWrittenType a → t.site.first + nodes t.core + nodes a ≤ t.site.first + allowance t
-written_within t a e =
-    subst (λ z. t.site.first + nodes t.core + nodes a ≤ t.site.first + allowance (record { entries = t.entries; site = t.site; core = t.core; aim = z })) (sym e) (omega arith)
-
-pub comes_within : {t : Task} {s : Site} {n : Core} {w : Want} → Comes t s n w → s.first + nodes n ≤ t.site.first + allowance t
-comes_within {t} Comes.root = core_within t
-comes_within {t} (Comes.written {a = a} e h) = written_within t a e
-comes_within {t} (Comes.part {s = s} {s' = s'} {n = n} {n' = n'} {w' = w'} {i = i} c p h) =
-    within_part t.entries s s' n n' Nothing w' i (t.site.first + allowance t) p (comes_within c)

@@ -1,9 +1,11 @@
 -- What a check of a whole core answers.
-use Rattle.std.proofs.Common.{◌≡◌, ℕ, suc, ◌+◌, ◌≤◌, max, List, [], ◌∷◌, ◌++◌, map, refl, sym, ap, ◌∙◌, subst, Option, Some, arith, All, append_assoc}
+use Rattle.std.proofs.Common.{◌≡◌, ℕ, suc, ◌+◌, ◌≤◌, max, List, [], ◌∷◌, ◌++◌, map, refl, sym, ap, ◌∙◌, subst, Option, Some, Ok, arith, All, append_assoc}
 use Rattle.lego_base.specs.declared.place.Place.{Place}
 use Rattle.lego_term.specs.declared.level.Level.{Level}
 use Rattle.lego_term.specs.Trees.{Core}
+use Rattle.lego_term.specs.declared.weight.Extent.{Extent}
 use Rattle.lego_term.specs.Sequences.{HeadForm}
+use Rattle.lego_term.specs.Weight.{height, weight, IsMeasured}
 use Rattle.lego_laws.specs.Entries.{Entry, core_bodies, IsHeld}
 use Rattle.lego_laws.specs.RuleTypes.{nodes}
 use Rattle.lego_laws.specs.Principal.{core_types, entries_bound}
@@ -17,9 +19,10 @@ use Rattle.lego_level.specs.Graphs.{pairs_of}
 use Rattle.lego_compare.specs.Answers.{IsDecidedBy}
 use Rattle.lego_inference.specs.declared.entry.Judged.{Judged}
 use Rattle.lego_inference.specs.declared.fault.TypeFault.{TypeFault}
+use Rattle.lego_inference.specs.Causes.{IsWhole, AreMeasured}
 use Rattle.lego_inference.specs.Failures.{TypeFails}
 use Rattle.lego_inference.specs.Inferred.{AreGathered, IsInferred, IsInferredType, IsChecked, IsCheckedWritten}
-use Rattle.lego_inference.specs.private.Judging.{Root, task_on, Inferred, IsTypeBy, HasStated, Fails, FailsAt, PairFails}
+use Rattle.lego_inference.specs.private.Judging.{Root, task_on, Inferred, IsTypeBy, HasStated, IsBegun, Fails, FailsAt, PairFails}
 use Rattle.lego_inference.proofs.GatherLemmas.{at_both, of_both}
 use Rattle.lego_inference.proofs.ShapeLemmas.{shaped_head, shaped_nothing, shaped_stated, sort_fulfils}
 use Rattle.lego_inference.proofs.LeafRules.{fits_moved}
@@ -35,64 +38,90 @@ task es s m aim = record { entries = es; site = s; core = m; aim = aim }
 pub is_new : (es : List Entry) (s : Site) (m : Core) (aim : Aim) → entries_bound es ≤ s.first → locals_bound s.types ≤ s.first → locals_bound (m ∷ stated_in (want_of aim)) ≤ s.first → IsNew (task es s m aim)
 is_new es s m aim le lg lm u from held = let k = held_within u s.first es s.types (m ∷ stated_in (want_of aim)) le lg lm held in absurd (omega arith)
 
+abbrev IsWithinLimits : Core → Type 0
+IsWithinLimits u = (height u ≤ 2000) × (weight u ≤ 1048576)
+
+within_limits : (u : Core) (x : Extent) → IsMeasured u (Ok x) → IsWithinLimits u
+within_limits u x h = (h.2, h.3)
+
+whole_alone : {t : Task} {u : Core} → ((a : Core) → t.aim ≡ OfWrittenType a → ⊥) → IsWithinLimits t.core → IsWhole t u → IsWithinLimits u
+whole_alone none h IsWhole.core = h
+whole_alone none h (IsWhole.written {a = a} e) = absurd (none a e)
+
+-- a core alone is measured
+pub measured_alone : (es : List Entry) (s : Site) (m : Core) (aim : Aim) (x : Extent) → ((a : Core) → aim ≡ OfWrittenType a → ⊥) → IsMeasured m (Ok x) → AreMeasured (task es s m aim)
+measured_alone es s m aim x none h = λ u whole. whole_alone {t = task es s m aim} none (within_limits m x h) whole
+
+whole_both : {t : Task} {u a : Core} → t.aim ≡ OfWrittenType a → IsWithinLimits t.core → IsWithinLimits a → IsWhole t u → IsWithinLimits u
+whole_both is h k IsWhole.core = h
+whole_both {a = a} is h k (IsWhole.written {a = b} e) = let same : a ≡ b = cc in subst IsWithinLimits same k
+
+-- a core and the type that is written with it are
+pub measured_both : (es : List Entry) (s : Site) (m a : Core) (x y : Extent) → IsMeasured m (Ok x) → IsMeasured a (Ok y) → AreMeasured (task es s m (OfWrittenType a))
+measured_both es s m a x y h k = λ u whole. whole_both {t = task es s m (OfWrittenType a)} {a = a} refl (within_limits m x h) (within_limits a y k) whole
+
+pub is_begun : (es : List Entry) (s : Site) (m : Core) (aim : Aim) → IsNew (task es s m aim) → AreMeasured (task es s m aim) → IsBegun (task es s m aim)
+is_begun es s m aim new measured = record { new = new; measured = measured }
+
 module _ (es : List Entry) (limit : ℕ) (s : Site) (m : Core) (fault : TypeFault) where
   -- the refusal of the whole core
-  pub whole_fails : (aim : Aim) → IsNew (task es s m aim) → Fails es limit s m fault → TypeFails limit (task es s m aim) fault
-  whole_fails aim new f = f (record { site = s; core = m; aim = aim }) (want_of aim) new Comes.root
+  pub whole_fails : (aim : Aim) → IsBegun (task es s m aim) → Fails es limit s m fault → TypeFails limit (task es s m aim) fault
+  whole_fails aim begun f = f (record { site = s; core = m; aim = aim }) (want_of aim) begun Comes.root
 
-  no_written : (aim : Aim) → ((a : Core) → aim ≡ OfWrittenType a → ⊥) → IsNew (task es s m aim) → FailsAt es limit s m (want_of aim) fault → TypeFails limit (task es s m aim) fault
-  no_written aim none new f = f (record { site = s; core = m; aim = aim }) new Comes.root (λ ps. IsReached.root ps (λ a e. absurd (none a e)))
+  no_written : (aim : Aim) → ((a : Core) → aim ≡ OfWrittenType a → ⊥) → IsBegun (task es s m aim) → FailsAt es limit s m (want_of aim) fault → TypeFails limit (task es s m aim) fault
+  no_written aim none begun f = f (record { site = s; core = m; aim = aim }) begun Comes.root (λ ps. IsReached.root ps (λ a e. absurd (none a e)))
 
-  pub type_fails : IsNew (task es s m BeAType) → FailsAt es limit s m AType fault → TypeFails limit (task es s m BeAType) fault
-  type_fails new f = no_written BeAType (λ a e. cc) new f
+  pub type_fails : IsBegun (task es s m BeAType) → FailsAt es limit s m AType fault → TypeFails limit (task es s m BeAType) fault
+  type_fails begun f = no_written BeAType (λ a e. cc) begun f
 
-  pub check_fails : (want : Core) → IsNew (task es s m (OfType want)) → FailsAt es limit s m (Stated want) fault → TypeFails limit (task es s m (OfType want)) fault
-  check_fails want new f = no_written (OfType want) (λ a e. cc) new f
+  pub check_fails : (want : Core) → IsBegun (task es s m (OfType want)) → FailsAt es limit s m (Stated want) fault → TypeFails limit (task es s m (OfType want)) fault
+  check_fails want begun f = no_written (OfType want) (λ a e. cc) begun f
 
   -- of a written type, behind a core with shaped parts
-  pub written_fails : (a : Core) → IsNew (task es s m (OfWrittenType a)) → ArePartsShaped es s m Nothing → FailsAt es limit (behind (nodes m) s) a AType fault → TypeFails limit (task es s m (OfWrittenType a)) fault
-  written_fails a new parts f = f (record { site = s; core = m; aim = OfWrittenType a }) new (Comes.written refl parts) (λ ps. IsReached.written refl parts ps)
+  pub written_fails : (a : Core) → IsBegun (task es s m (OfWrittenType a)) → ArePartsShaped es s m Nothing → FailsAt es limit (behind (nodes m) s) a AType fault → TypeFails limit (task es s m (OfWrittenType a)) fault
+  written_fails a begun parts f = f (record { site = s; core = m; aim = OfWrittenType a }) begun (Comes.written refl parts) (λ ps. IsReached.written refl parts ps)
 
   -- of the comparison with it
-  pub against_fails : (a : Core) → IsNew (task es s m (OfWrittenType a)) → IsShaped es (behind (nodes m) s) a AType → FailsAt es limit s m (Stated a) fault → TypeFails limit (task es s m (OfWrittenType a)) fault
-  against_fails a new shaped f =
-      f (record { site = s; core = m; aim = OfWrittenType a }) new Comes.root
+  pub against_fails : (a : Core) → IsBegun (task es s m (OfWrittenType a)) → IsShaped es (behind (nodes m) s) a AType → FailsAt es limit s m (Stated a) fault → TypeFails limit (task es s m (OfWrittenType a)) fault
+  against_fails a begun shaped f =
+      f (record { site = s; core = m; aim = OfWrittenType a }) begun Comes.root
       (λ ps. IsReached.root ps (λ b e. let same : a ≡ b = cc in subst (λ z. IsShaped es (behind (nodes m) s) z AType) same shaped))
 
 module _ (es : List Entry) (place : Place) (s : Site) (m : Core) where
-  gathered : (aim : Aim) (k : List Constraint) (a : Core) → Inferred es place s m k a → allowance (task es s m aim) ≡ nodes m → s.first + nodes m ≤ 1048576 → HasShape (task es s m aim) → AreGathered (task es s m aim) place k (s.first + nodes m)
-  gathered aim k a j count few shape = record {
+  gathered : (aim : Aim) (k : List Constraint) (a : Core) → Inferred es place s m k a → allowance (task es s m aim) ≡ nodes m → s.first + nodes m ≤ 1048576 → HasShape (task es s m aim) → AreMeasured (task es s m aim) → AreGathered (task es s m aim) place k (s.first + nodes m)
+  gathered aim k a j count few shape measured = record {
     count = ap (λ n. s.first + n) (sym count);
     within = few;
     of_core = j.of_core (record { site = s; core = m; aim = aim }) (want_of aim) (Stands.in_core Within.itself);
     placed = j.placed;
     shape = shape;
+    measured = measured;
   }
 
   only_core : (aim : Aim) → ((a : Core) → aim ≡ OfWrittenType a → ⊥) → IsShaped es s m (want_of aim) → HasShape (task es s m aim)
   only_core aim none shaped = record { core = shaped; written = λ a e. absurd (none a e) }
 
-  judged_by : (aim : Aim) (k : List Constraint) (a : Core) → Inferred es place s m k a → allowance (task es s m aim) ≡ nodes m → s.first + nodes m ≤ 1048576 → HasShape (task es s m aim) → IsInferred (task es s m aim) place (record { ty = a; constraints = k; levels = s.first + nodes m })
-  judged_by aim k a j count few shape = record { rule = j.rule; fits = j.fits; gathered = gathered aim k a j count few shape }
+  judged_by : (aim : Aim) (k : List Constraint) (a : Core) → Inferred es place s m k a → allowance (task es s m aim) ≡ nodes m → s.first + nodes m ≤ 1048576 → HasShape (task es s m aim) → AreMeasured (task es s m aim) → IsInferred (task es s m aim) place (record { ty = a; constraints = k; levels = s.first + nodes m })
+  judged_by aim k a j count few shape measured = record { rule = j.rule; fits = j.fits; gathered = gathered aim k a j count few shape measured }
 
   -- the answered level variables are within the limit
   few_of : {judged : Judged} {a : Core} {k : List Constraint} {n : ℕ} → judged.levels ≤ 1048576 → judged ≡ record { ty = a; constraints = k; levels = n } → n ≤ 1048576
   few_of few e = subst (λ (n : ℕ). n ≤ 1048576) (ap (λ (j : Judged). j.levels) e) few
 
-  pub inferred_whole : (k : List Constraint) (a : Core) (judged : Judged) → judged.levels ≤ 1048576 → Inferred es place s m k a → judged ≡ record { ty = a; constraints = k; levels = s.first + nodes m } → IsInferred (task es s m AnyType) place judged
-  inferred_whole k a judged few j e = subst (IsInferred (task es s m AnyType) place) (sym e) (judged_by AnyType k a j (omega arith) (few_of few e) (only_core AnyType (λ b f. cc) (shaped_nothing j.parts)))
+  pub inferred_whole : (k : List Constraint) (a : Core) (judged : Judged) → judged.levels ≤ 1048576 → AreMeasured (task es s m AnyType) → Inferred es place s m k a → judged ≡ record { ty = a; constraints = k; levels = s.first + nodes m } → IsInferred (task es s m AnyType) place judged
+  inferred_whole k a judged few measured j e = subst (IsInferred (task es s m AnyType) place) (sym e) (judged_by AnyType k a j (omega arith) (few_of few e) (only_core AnyType (λ b f. cc) (shaped_nothing j.parts)) measured)
 
-  pub type_whole : (k : List Constraint) (a : Core) (sort : Option Level) (judged : Judged) → judged.levels ≤ 1048576 → Inferred es place s m k a → HeadForm (core_bodies es) a (sort_term sort) → judged ≡ record { ty = a; constraints = k; levels = s.first + nodes m } → IsInferredType (task es s m BeAType) place judged
-  type_whole k a sort judged few j head e =
+  pub type_whole : (k : List Constraint) (a : Core) (sort : Option Level) (judged : Judged) → judged.levels ≤ 1048576 → AreMeasured (task es s m BeAType) → Inferred es place s m k a → HeadForm (core_bodies es) a (sort_term sort) → judged ≡ record { ty = a; constraints = k; levels = s.first + nodes m } → IsInferredType (task es s m BeAType) place judged
+  type_whole k a sort judged few measured j head e =
       subst (IsInferredType (task es s m BeAType) place) (sym e) (record {
-        inferred = judged_by BeAType k a j (omega arith) (few_of few e) (only_core BeAType (λ b f. cc) (shaped_head j.parts j.rule head WantsHead.a_type (sort_fulfils sort)));
+        inferred = judged_by BeAType k a j (omega arith) (few_of few e) (only_core BeAType (λ b f. cc) (shaped_head j.parts j.rule head WantsHead.a_type (sort_fulfils sort))) measured;
         sort = sort;
         head = head;
       })
 
-  check_split : (want have : Core) (own more : List Constraint) → levels_bound want ≤ s.first → s.first + nodes m ≤ 1048576 → Inferred es place s m own have → IsDecidedBy Cumulativity (core_bodies es) have want place more
+  check_split : (want have : Core) (own more : List Constraint) → levels_bound want ≤ s.first → s.first + nodes m ≤ 1048576 → AreMeasured (task es s m (OfType want)) → Inferred es place s m own have → IsDecidedBy Cumulativity (core_bodies es) have want place more
       → IsChecked (task es s m (OfType want)) want place (record { ty = want; constraints = own ++ more; levels = s.first + nodes m })
-  check_split want have own more within few j decided = record {
+  check_split want have own more within few measured j decided = record {
     type = refl;
     fits = λ held c is_type.
         let fm = j.fits held c in
@@ -106,17 +135,18 @@ module _ (es : List Entry) (place : Place) (s : Site) (m : Core) where
       of_core = of_both (task es s m (OfType want)) own more (j.of_core (record { site = s; core = m; aim = OfType want }) (Stated want) (Stands.in_core Within.itself)) (decided_of_core j.rule decided (record { site = s; core = m; aim = OfType want }) (Stands.in_core Within.itself));
       placed = at_both place own more j.placed decided.placed;
       shape = only_core (OfType want) (λ b f. cc) (shaped_stated j.parts j.rule decided.zero);
+      measured = measured;
     };
   }
 
-  pub check_whole : (want : Core) (k : List Constraint) (judged : Judged) → judged.levels ≤ 1048576 → levels_bound want ≤ s.first → HasStated es place s m k want → judged ≡ record { ty = want; constraints = k; levels = s.first + nodes m } → IsChecked (task es s m (OfType want)) want place judged
-  check_whole want k judged few within h e =
+  pub check_whole : (want : Core) (k : List Constraint) (judged : Judged) → judged.levels ≤ 1048576 → AreMeasured (task es s m (OfType want)) → levels_bound want ≤ s.first → HasStated es place s m k want → judged ≡ record { ty = want; constraints = k; levels = s.first + nodes m } → IsChecked (task es s m (OfType want)) want place judged
+  check_whole want k judged few measured within h e =
       subst (IsChecked (task es s m (OfType want)) want place) (sym (e ∙ ap (λ z. record { ty = want; constraints = z; levels = s.first + nodes m }) h.split))
-      (check_split want h.have h.own h.more within (few_of few e) h.inferred h.decided)
+      (check_split want h.have h.own h.more within (few_of few e) measured h.inferred h.decided)
 
-  written_split : (a have : Core) (km kt more : List Constraint) (sort : Option Level) → levels_bound a ≤ s.first → s.first + nodes m + nodes a ≤ 1048576 → Inferred es place s m km have → IsTypeBy es place (behind (nodes m) s) a kt sort → IsDecidedBy Cumulativity (core_bodies es) have a place more
+  written_split : (a have : Core) (km kt more : List Constraint) (sort : Option Level) → levels_bound a ≤ s.first → s.first + nodes m + nodes a ≤ 1048576 → AreMeasured (task es s m (OfWrittenType a)) → Inferred es place s m km have → IsTypeBy es place (behind (nodes m) s) a kt sort → IsDecidedBy Cumulativity (core_bodies es) have a place more
       → IsCheckedWritten (task es s m (OfWrittenType a)) a place (record { ty = a; constraints = km ++ (kt ++ more); levels = s.first + nodes m + nodes a })
-  written_split a have km kt more sort within few j t decided = record {
+  written_split a have km kt more sort within few measured j t decided = record {
     type = refl;
     fits = λ held c.
         let fm = j.fits held c in
@@ -136,11 +166,12 @@ module _ (es : List Entry) (place : Place) (s : Site) (m : Core) where
         core = shaped_stated j.parts j.rule decided.zero;
         written = λ b e. let same : a ≡ b = cc in subst (λ z. IsShaped es (behind (nodes m) s) z AType) same (type_shaped t);
       };
+      measured = measured;
     };
   }
 
-  pub written_whole : (a have : Core) (km kt more : List Constraint) (sort : Option Level) (judged : Judged) → judged.levels ≤ 1048576 → levels_bound a ≤ s.first → Inferred es place s m km have → IsTypeBy es place (behind (nodes m) s) a kt sort → IsDecidedBy Cumulativity (core_bodies es) have a place more
+  pub written_whole : (a have : Core) (km kt more : List Constraint) (sort : Option Level) (judged : Judged) → judged.levels ≤ 1048576 → AreMeasured (task es s m (OfWrittenType a)) → levels_bound a ≤ s.first → Inferred es place s m km have → IsTypeBy es place (behind (nodes m) s) a kt sort → IsDecidedBy Cumulativity (core_bodies es) have a place more
       → judged ≡ record { ty = a; constraints = (km ++ kt) ++ more; levels = s.first + nodes m + nodes a } → IsCheckedWritten (task es s m (OfWrittenType a)) a place judged
-  written_whole a have km kt more sort judged few within j t decided e =
+  written_whole a have km kt more sort judged few measured within j t decided e =
       subst (IsCheckedWritten (task es s m (OfWrittenType a)) a place) (sym (e ∙ ap (λ z. record { ty = a; constraints = z; levels = s.first + nodes m + nodes a }) (append_assoc km kt more)))
-      (written_split a have km kt more sort within (few_of few e) j t decided)
+      (written_split a have km kt more sort within (few_of few e) measured j t decided)

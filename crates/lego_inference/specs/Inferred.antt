@@ -14,15 +14,17 @@ use Rattle.lego_laws.specs.Ranges.{Context, FitsBetween, FitsWantedBetween, Fits
 use Rattle.lego_level.specs.declared.constraint.Constraint.{Constraint}
 use Rattle.lego_level.specs.Graphs.{pairs_of}
 use Rattle.lego_inference.specs.declared.entry.Judged.{Judged}
+use Rattle.lego_inference.specs.Causes.{AreMeasured}
 
--- The constraints that a check gathers: each is one of the core, at the place of the check; the core has its shape; and the level
--- variables below `levels` are those held, and one for each node, within the limit.
+-- The constraints that a check gathers: each is one of the core, at the place of the check; the core has its shape, and is within
+-- the limits of height and weight; and the level variables below `levels` are those held, and one for each node, within the limit.
 pub record AreGathered (t : Task) (place : Place) (more : List Constraint) (levels : ℕ) : Type 0 where
   pub count : levels ≡ t.site.first + allowance t
   pub within : levels ≤ 1048576
   pub of_core : All (λ c. IsConstraintOfCore t c.low c.high) more
   pub placed : All (λ c. c.place ≡ Some place) more
   pub shape : HasShape t
+  pub measured : AreMeasured t
 
 -- the local types and the constants are a context over the level variables held, wherever these constraints are satisfied
 abbrev pub IsContextOf : Task → List LevelPair → Type 0

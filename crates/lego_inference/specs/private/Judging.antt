@@ -28,6 +28,7 @@ use Rattle.lego_inference.specs.declared.rules.Formed.{Formed}
 use Rattle.lego_inference.specs.Entries.{AreClosedEntries}
 use Rattle.lego_inference.specs.Locals.{site_of, IsOver, seen_under}
 use Rattle.lego_inference.specs.declared.locals.Local.{Local}
+use Rattle.lego_inference.specs.Causes.{AreMeasured}
 use Rattle.lego_inference.specs.Failures.{TypeFails}
 
 -- what is checked as a whole
@@ -59,14 +60,19 @@ pub record Inferred (es : List Entry) (place : Place) (s : Site) (m : Core) (k :
   pub of_core : (r : Root) (w : Want) → Stands (task_on es r) s m w → All (λ c. IsConstraintOfCore (task_on es r) c.low c.high) k
   pub placed : All (λ c. c.place ≡ Some place) k
 
+-- the check of a whole core has begun: its level variables are new, and it is measured
+pub record IsBegun (t : Task) : Type 0 where
+  pub new : IsNew t
+  pub measured : AreMeasured t
+
 -- each check that comes to the term is refused so
 abbrev pub Fails : List Entry → ℕ → Site → Core → TypeFault → Type 0
-Fails es limit s m fault = (r : Root) (w : Want) → IsNew (task_on es r) → Comes (task_on es r) s m w → TypeFails limit (task_on es r) fault
+Fails es limit s m fault = (r : Root) (w : Want) → IsBegun (task_on es r) → Comes (task_on es r) s m w → TypeFails limit (task_on es r) fault
 
 -- the same where this is wanted of the term
 abbrev pub FailsAt : List Entry → ℕ → Site → Core → Want → TypeFault → Type 0
 FailsAt es limit s m w fault =
-    (r : Root) → IsNew (task_on es r) → Comes (task_on es r) s m w → (ArePartsShaped es s m Nothing → IsReached (task_on es r) s m w)
+    (r : Root) → IsBegun (task_on es r) → Comes (task_on es r) s m w → (ArePartsShaped es s m Nothing → IsReached (task_on es r) s m w)
     → TypeFails limit (task_on es r) fault
 
 -- these constraints and so many level variables were added

@@ -18,7 +18,7 @@ use Rattle.lego_inference.proofs.FailLemmas.{at_pair}
 use Rattle.lego_inference.proofs.FormerRules.{type_shaped}
 use Rattle.lego_inference.proofs.JudgeLemmas.{at_site, sort_found, few_names}
 use Rattle.lego_inference.proofs.CallLemmas.{ready_whole, measured_fails, judged_is}
-use Rattle.lego_inference.proofs.WholeLemmas.{is_new, whole_fails, type_fails, check_fails, written_fails, against_fails, inferred_whole, type_whole, check_whole, written_whole}
+use Rattle.lego_inference.proofs.WholeLemmas.{is_new, measured_alone, is_begun, whole_fails, type_fails, check_fails, written_fails, against_fails, inferred_whole, type_whole, check_whole, written_whole}
 use Rattle.lego_inference.proofs.calls.check.Goals as goal
 
 pub returns-in_err-locals : goal.returns-in_err-locals
@@ -42,7 +42,7 @@ checked-requires-clause-stated c =
 pub returns-in_err-checked : goal.returns-in_err-checked
 returns-in_err-checked c =
     let e = err_from_is_err_and c.from_residual-in_err-checked.result c.from_residual-in_err-checked.ensures.1 in
-    rw (e.1, e.2) (check_fails (laws_entries c.args.signature.now) c.args.asked.limit (site_of c.args.locals.now c.args.levels) c.args.m.now c.in_err-checked.field-0.0 c.args.want.now (is_new (laws_entries c.args.signature.now) (site_of c.args.locals.now c.args.levels) c.args.m.now (OfType c.args.want.now) c.requires.held.entries c.requires.held.types (let w = c.requires.term.levels_within in let v = c.requires.wanted.levels_within in omega arith)) (at_site (λ z. FailsAt (laws_entries c.args.signature.now) c.args.asked.limit z c.args.m.now (Stated c.args.want.now) c.in_err-checked.field-0.0) {l = c.in_ok-locals.locals} {n = c.new-found.result.levels} c.in_ok-locals.ensures c.new-found.ensures.levels c.in_err-checked.ensures.judged))
+    rw (e.1, e.2) (check_fails (laws_entries c.args.signature.now) c.args.asked.limit (site_of c.args.locals.now c.args.levels) c.args.m.now c.in_err-checked.field-0.0 c.args.want.now (is_begun (laws_entries c.args.signature.now) (site_of c.args.locals.now c.args.levels) c.args.m.now (OfType c.args.want.now) (is_new (laws_entries c.args.signature.now) (site_of c.args.locals.now c.args.levels) c.args.m.now (OfType c.args.want.now) c.requires.held.entries c.requires.held.types (let w = c.requires.term.levels_within in let v = c.requires.wanted.levels_within in omega arith)) (measured_alone (laws_entries c.args.signature.now) (site_of c.args.locals.now c.args.levels) c.args.m.now (OfType c.args.want.now) c.in_ok-measure.field-0 (λ a e. cc) c.in_ok-measure.ensures)) (at_site (λ z. FailsAt (laws_entries c.args.signature.now) c.args.asked.limit z c.args.m.now (Stated c.args.want.now) c.in_err-checked.field-0.0) {l = c.in_ok-locals.locals} {n = c.new-found.result.levels} c.in_ok-locals.ensures c.new-found.ensures.levels c.in_err-checked.ensures.judged))
 
 pub returns-in_err-share : goal.returns-in_err-share
 returns-in_err-share c =
@@ -52,5 +52,5 @@ returns-in_err-share c =
 pub returns : goal.returns
 returns c =
     let j = (at_site (λ z. ChecksAt (laws_entries c.args.signature.now) c.args.asked z c.args.m.now c.args.want.now c.new-found.result c.checked.new.found (Ok tt)) {l = c.in_ok-locals.locals} {n = c.new-found.result.levels} c.in_ok-locals.ensures c.new-found.ensures.levels c.in_ok-checked.ensures.judged) in
-    check_whole (laws_entries c.args.signature.now) c.args.asked.place (site_of c.args.locals.now c.args.levels) c.args.m.now c.args.want.now j.0 c.judged.result c.judged.ensures.within c.requires.wanted.levels_within j.2
+    check_whole (laws_entries c.args.signature.now) c.args.asked.place (site_of c.args.locals.now c.args.levels) c.args.m.now c.args.want.now j.0 c.judged.result c.judged.ensures.within (measured_alone (laws_entries c.args.signature.now) (site_of c.args.locals.now c.args.levels) c.args.m.now (OfType c.args.want.now) c.in_ok-measure.field-0 (λ a e. cc) c.in_ok-measure.ensures) c.requires.wanted.levels_within j.2
     (judged_is c.judged.result c.args.want.now j.0 (c.args.levels + nodes c.args.m.now) (c.judged.ensures.ty ∙ c.in_ok-share.ensures.same) (c.judged.ensures.constraints ∙ j.1.constraints ∙ ap (λ (z : List Constraint). z ++ j.0) c.new-found.ensures.constraints) (c.judged.ensures.levels ∙ j.1.levels ∙ ap (λ (z : ℕ). z + nodes c.args.m.now) c.new-found.ensures.levels))

@@ -2,11 +2,12 @@ use Rattle.std.proofs.Common.{◌≡◌, ℕ, suc, ◌+◌, ◌∙◌, List, ◌
 use Rattle.std.proofs.lemmas.Result.{err_from_is_err_and}
 use Rattle.lego_term.specs.Trees.{Core, Var, Const, Prop, Univ, Pi, Lam, App, Sigma, Pair, Fst, Snd, Let, instantiate, loose}
 use Rattle.lego_term.specs.Weight.{height}
-use Rattle.lego_laws.specs.Places.{AType, AFunction, APair, Stated, Site, behind, under, Part}
+use Rattle.lego_laws.specs.Places.{AType, AFunction, APair, Stated, Site, behind, under, Part, IsFormer}
 use Rattle.lego_laws.specs.RuleTypes.{nodes}
 use Rattle.lego_laws.specs.Ranges.{levels_bound, sort_term}
 use Rattle.lego_term.proofs.LooseLemmas.{loose-instantiate}
 use Rattle.lego_laws.proofs.lemmas.principal.SolvedCores.{heights, positive}
+use Rattle.lego_inference.specs.Causes.{TakesLevel}
 use Rattle.lego_inference.specs.Entries.{laws_entries}
 use Rattle.lego_inference.specs.Locals.{site_of, types_of, binders_of, NamesEntries}
 use Rattle.lego_inference.specs.declared.locals.Local.{Local}
@@ -15,7 +16,6 @@ use Rattle.lego_inference.proofs.LocalLemmas.{length-map}
 use Rattle.lego_inference.proofs.ReadyLemmas.{ready_part, loose_of, loose_head}
 use Rattle.lego_inference.proofs.ShapeLemmas.{none_before}
 use Rattle.lego_inference.proofs.FailLemmas.{fails_part, fails_at_part, fails_memory, at_any}
-use Rattle.lego_inference.proofs.FormerRules.{count_pi, count_sigma}
 use Rattle.lego_inference.proofs.JudgeLemmas.{at_site, made_infers, prop_infers, variable_infers, constant_infers, universe_infers, level_fails, product_infers, sigma_infers, first_infers, second_infers, sort_found, pair_found, compared, under_code, under_rule, on_any, ready_product, ready_first, few_names, then_kept}
 use Rattle.lego_inference.proofs.ArmLemmas.{lambda_body_fails, lambda_infers, domain_fails, body_fails, forms, function_unfit, argument_fails, application_infers, put_fails, local_body_fails, local_finish, pair_body_fails, pair_first_fails, pair_second_fails, pair_stated_fails, pair_compare_fails, pair_infers}
 use Rattle.lego_inference.proofs.judge.+judge.Goals as goal
@@ -128,8 +128,8 @@ pub formed-returns-in_err-own-clause-parts : goal.formed-returns-in_err-own-clau
 formed-returns-in_err-own-clause-parts t c =
     let e = err_from_is_err_and c.from_residual.result c.from_residual.ensures.1 in
     rw (e.1, e.2) (
-      level_fails (laws_entries c.args.setting.now.signature.now) c.args.setting.now.asked (site_of c.args.locals.now c.args.found.now.levels) (Pi c.args.bound.now.binder c.args.bound.now.domain.now c.args.bound.now.body.now) c.in_err-own.field-0.0 (omega (arith, count_pi c.args.bound.now.binder c.args.bound.now.domain.now c.args.bound.now.body.now)) (inr (c.in_err-own.ensures.fault, c.in_err-own.ensures.full)),
-      level_fails (laws_entries c.args.setting.now.signature.now) c.args.setting.now.asked (site_of c.args.locals.now c.args.found.now.levels) (Sigma c.args.bound.now.binder c.args.bound.now.domain.now c.args.bound.now.body.now) c.in_err-own.field-0.0 (omega (arith, count_sigma c.args.bound.now.binder c.args.bound.now.domain.now c.args.bound.now.body.now)) (inr (c.in_err-own.ensures.fault, c.in_err-own.ensures.full)),
+      level_fails (laws_entries c.args.setting.now.signature.now) c.args.setting.now.asked (site_of c.args.locals.now c.args.found.now.levels) (Pi c.args.bound.now.binder c.args.bound.now.domain.now c.args.bound.now.body.now) c.in_err-own.field-0.0 (TakesLevel.former IsFormer.a_product) (inr (c.in_err-own.ensures.fault, c.in_err-own.ensures.full)),
+      level_fails (laws_entries c.args.setting.now.signature.now) c.args.setting.now.asked (site_of c.args.locals.now c.args.found.now.levels) (Sigma c.args.bound.now.binder c.args.bound.now.domain.now c.args.bound.now.body.now) c.in_err-own.field-0.0 (TakesLevel.former IsFormer.a_sigma) (inr (c.in_err-own.ensures.fault, c.in_err-own.ensures.full)),
     )
 
 pub formed-returns-in_err-domain-clause-parts : goal.formed-returns-in_err-domain-clause-parts
