@@ -39,8 +39,8 @@ module _ (limit : ℕ) (stop : Bool) (script before : List ℕ) {taken' : Option
       let k = answers_front more (w.are ∙ is) run w.run in (
         answers_text k.0 ++ rest_of_whole,
         ap (λ answers. answers_text answers ++ rest_of_whole) k.1
-        ∙ (ap (λ xs. xs ++ rest_of_whole) (flat_map-append (λ (a : Reply). a.text) run.answers k.0)
-        ∙ append_assoc (answers_text run.answers) (answers_text k.0) rest_of_whole),
+            ∙ (ap (λ xs. xs ++ rest_of_whole) (flat_map-append (λ (a : Reply). a.text) run.answers k.0)
+            ∙ append_assoc (answers_text run.answers) (answers_text k.0) rest_of_whole),
       )
 
   module _ {taken : Option (List ℕ)} where

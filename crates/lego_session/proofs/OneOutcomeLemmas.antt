@@ -63,8 +63,7 @@ module _ (limit : ℕ) (stop : Bool) (script before : List ℕ) where
   pub one_whole : {taken taken' : Option (List ℕ)} {one other : Status} → IsWhole taken one → IsWhole taken' other → (one ≡ other) × (taken ≡ taken')
   one_whole p q =
       let run = same_run (p.are ∙ sym q.are) p.run q.run in
-      let ending = same_ending (p.are ∙ sym q.are) p.run q.run in
-      (
+      let ending = same_ending (p.are ∙ sym q.are) p.run q.run in (
         p.is_status ∙ ((λ z. status_of stop is_long (run.replies z) (ending z)) ∙ sym q.is_status),
         p.is_taken ∙ ((λ z. Some (before ++ text_by stop is_long (run.replies z) (run.numbering z) (run.session z) (ending z))) ∙ sym q.is_taken),
       )
