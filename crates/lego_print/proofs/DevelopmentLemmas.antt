@@ -1,0 +1,77 @@
+-- What a loop over entries or universes adds.
+use Rattle.std.proofs.Common.{◌≡◌, ℕ, Bool, true, false, not, ◌&&◌, ◌||◌, nat_eq, if◌then◌else◌, List, [], ◌∷◌, ◌++◌, refl, sym, ap, ◌∙◌, append_assoc, arith}
+use Rattle.std.specs.Prelude.{nat_lt}
+use Rattle.std.specs.List.{list_any}
+use Rattle.std.proofs.lemmas.Bool.Decides.{nat_tests}
+use Rattle.std.proofs.lemmas.List.Folds.{list_any-append}
+use Rattle.lego_print.specs.declared.universes.Universe.{Universe}
+use Rattle.lego_print.specs.Developments.{used_once, is_before}
+use Rattle.core.specs.Cmp.{IsStrictWeakOrder}
+
+pub or_assoc : (a b c : Bool) → ((a || b) || c) ≡ (a || (b || c))
+or_assoc true b c = refl
+or_assoc false b c = refl
+
+pub or_false : (a : Bool) → (a || false) ≡ a
+or_false true = refl
+or_false false = refl
+
+eq_same : (u v : ℕ) → nat_eq u v ≡ true → u ≡ v
+eq_same u v h = grind (arith, nat_tests)
+
+-- a key that is inserted, if it is new
+pub any_inserted : (u v : ℕ) (keys : List ℕ) → list_any (nat_eq u) (if list_any (nat_eq v) keys then keys else keys ++ v ∷ []) ≡ (list_any (nat_eq u) keys || nat_eq u v)
+any_inserted u v keys = by_test (list_any (nat_eq v) keys) refl
+  where
+    there : (b : Bool) → nat_eq u v ≡ b → list_any (nat_eq v) keys ≡ true → list_any (nat_eq u) keys ≡ (list_any (nat_eq u) keys || b)
+    there false e h = sym (or_false (list_any (nat_eq u) keys))
+    there true e h = let same : list_any (nat_eq u) keys ≡ true = ap (λ (n : ℕ). list_any (nat_eq n) keys) (eq_same u v e) ∙ h in rw same refl
+    by_test : (b : Bool) → list_any (nat_eq v) keys ≡ b → list_any (nat_eq u) (if b then keys else keys ++ v ∷ []) ≡ (list_any (nat_eq u) keys || nat_eq u v)
+    by_test true h = there (nat_eq u v) refl h
+    by_test false h = list_any-append (nat_eq u) keys (v ∷ []) ∙ ap (λ (b : Bool). list_any (nat_eq u) keys || b) (or_false (nat_eq u v))
+
+-- universes that are used by tests that agree
+pub used_agree : (f g : ℕ → Bool) (us : List Universe) → ((u : ℕ) → f u ≡ g u) → used_once f us ≡ used_once g us
+used_agree f g us h = let same : f ≡ g = (λ z u. h u z) in ap (λ (t : ℕ → Bool). used_once t us) same
+
+eq_flip : (u v : ℕ) → nat_eq u v ≡ nat_eq v u
+eq_flip u v = grind (arith, nat_tests)
+
+-- keys without one
+pub any_removed : (keys new : List ℕ) (k : ℕ) → ((q : ℕ) → list_any (nat_eq q) new ≡ (if nat_eq k q then false else list_any (nat_eq q) keys))
+    → (w : ℕ) → (list_any (nat_eq w) keys && not (nat_eq w k)) ≡ list_any (nat_eq w) new
+any_removed keys new k h w =
+    sym (h w ∙ ap (λ (b : Bool). if b then false else list_any (nat_eq w) keys) (eq_flip k w) ∙ turned (nat_eq w k) (list_any (nat_eq w) keys))
+  where
+    turned : (b a : Bool) → (if b then false else a) ≡ (a && not b)
+    turned true true = refl
+    turned true false = refl
+    turned false true = refl
+    turned false false = refl
+
+-- one more universe, which is used
+pub used_step : (keys new : List ℕ) (u : Universe) (us old : List Universe) → list_any (nat_eq u.variable) keys ≡ true
+    → ((q : ℕ) → list_any (nat_eq q) new ≡ (if nat_eq u.variable q then false else list_any (nat_eq q) keys))
+    → (old ++ u ∷ []) ++ used_once (λ w. list_any (nat_eq w) new) us ≡ old ++ used_once (λ w. list_any (nat_eq w) keys) (u ∷ us)
+used_step keys new u us old is h =
+    append_assoc old (u ∷ []) (used_once (λ w. list_any (nat_eq w) new) us)
+    ∙ ap (λ (l : List Universe). old ++ u ∷ l) (sym (used_agree (λ w. list_any (nat_eq w) keys && not (nat_eq w u.variable)) (λ w. list_any (nat_eq w) new) us (any_removed keys new u.variable h)))
+    ∙ ap (λ (b : Bool). old ++ (if b then u ∷ used_once (λ w. list_any (nat_eq w) keys && not (nat_eq w u.variable)) us else used_once (λ w. list_any (nat_eq w) keys) us)) (sym is)
+
+-- one more, which is not
+pub unused_step : (keys : List ℕ) (u : Universe) (us old : List Universe) → list_any (nat_eq u.variable) keys ≡ false
+    → old ++ used_once (λ w. list_any (nat_eq w) keys) us ≡ old ++ used_once (λ w. list_any (nat_eq w) keys) (u ∷ us)
+unused_step keys u us old is =
+    ap (λ (b : Bool). old ++ (if b then u ∷ used_once (λ w. list_any (nat_eq w) keys && not (nat_eq w u.variable)) us else used_once (λ w. list_any (nat_eq w) keys) us)) (sym is)
+
+-- the order of places
+pub places_in_order : IsStrictWeakOrder (λ (u w : Universe). is_before u.place w.place)
+places_in_order = record {
+  one_way = λ u w h. one_way u.place.line u.place.column w.place.line w.place.column h;
+  chain = λ u w x p q. chain u.place.line u.place.column w.place.line w.place.column x.place.line x.place.column p q;
+}
+  where
+    one_way : (a b c d : ℕ) → (nat_lt a c || nat_eq a c && nat_lt b d) ≡ true → (nat_lt c a || nat_eq c a && nat_lt d b) ≡ false
+    one_way a b c d h = grind (arith, nat_tests)
+    chain : (a b c d e f : ℕ) → (nat_lt a c || nat_eq a c && nat_lt b d) ≡ false → (nat_lt c e || nat_eq c e && nat_lt d f) ≡ false → (nat_lt a e || nat_eq a e && nat_lt b f) ≡ false
+    chain a b c d e f p q = grind (arith, nat_tests)
