@@ -19,9 +19,9 @@ use Rattle.lego_grammar.specs.Grammar.{Names}
 use Rattle.lego_print.specs.declared.shown.Shown.{Shown}
 use Rattle.lego_print.specs.declared.shown.Shown.TheVariants.{Least, Hidden}
 use Rattle.lego_print.specs.Names.{Scope}
-use Rattle.lego_print.specs.Texts.{term_text, level_text, local_text, binder_name, bound, unbound, is_arrow, is_unused, sigma_rank, sign_text, argument_sign, ranked}
+use Rattle.lego_print.specs.Texts.{term_text, level_text, local_text, constant_text, binder_name, bound, unbound, is_arrow, is_unused, sigma_rank, sign_text, argument_sign, ranked}
 use Rattle.lego_print.specs.ReadBack.{IsLeast, IsHeldText, IsEntryText, IsBinderText, IsReadable}
-use Rattle.lego_print.specs.private.Parts.{sigma_text, product_text}
+use Rattle.lego_print.specs.private.Parts.{sigma_text, product_text, lambda_text, application_text, local_definition_text}
 use Rattle.lego_print.proofs.ReadForms.{name_form}
 use Rattle.lego_print.proofs.ReadTokens.{decimal_text}
 
@@ -155,7 +155,7 @@ module _ (levels : Shown) (v : Assignment) (names : Names) (es : List Entry) (nu
   calm_term (Var i) scope wanted h are =
       let is : h.0 ≡ local_text scope i = sym (ap (λ (o : Option (Option (List ℕ))). unwrap_or (option_and_then (λ printed. printed) o) []) h.1) in
       subst Calm is (are i h.0 h.1)
-  calm_term (Const k) scope wanted h are = calm_name _ h.text.is_name
+  calm_term (Const k) scope wanted h are = calm_name (constant_text scope k) h.text.is_name
   calm_term Prop scope wanted h are = refl
   calm_term (Univ l) scope wanted h are = calm_level levels l least h
   calm_term (Pi x a b) scope wanted h are =
@@ -164,11 +164,11 @@ module _ (levels : Shown) (v : Assignment) (names : Names) (es : List Entry) (nu
       (λ q. (q.0, calm_term b (bound scope x.name) 0 q.1 (calm_bound scope x.name q.0 are))) h.1 in
       calm_ranked 0 wanted (product_text levels scope x a b) (calm_product scope x a b (is_arrow x b) (calm_term a scope 1 h.0 are) (calm_term a scope 0 h.0 are) B)
   calm_term (Lam x a m) scope wanted h are =
-      calm_ranked 0 wanted _
+      calm_ranked 0 wanted (lambda_text levels scope x a m)
       (calm_binder (codes "[") (binder_name scope x.name) (sign_text x.mark) (term_text levels scope 0 a) (codes "]") (term_text levels (bound scope x.name) 0 m)
       refl (calm_bound_name scope x.name h.1) (calm_sign x.mark) (calm_term a scope 0 h.0 are) refl (calm_term m (bound scope x.name) 0 h.2 (calm_bound scope x.name h.1 are)))
   calm_term (App mark m n) scope wanted h are =
-      calm_ranked 2 wanted _
+      calm_ranked 2 wanted (application_text levels scope mark m n)
       (calm_infix (term_text levels scope 2 m) (argument_sign mark) (term_text levels scope 3 n) (calm_term m scope 2 h.0 are) (calm_argument mark) (calm_term n scope 3 h.1 are))
   calm_term (Sigma x a b) scope wanted h are =
       let B = match_map {R = IsCalm (unbound scope) 1 b} {S = CalmBound scope x.name b} (is_unused b)
@@ -184,7 +184,7 @@ module _ (levels : Shown) (v : Assignment) (names : Names) (es : List Entry) (nu
   calm_term (Fst m) scope wanted h are = calm_join (term_text levels scope 3 m) (codes ".1") (calm_term m scope 3 h are) refl
   calm_term (Snd m) scope wanted h are = calm_join (term_text levels scope 3 m) (codes ".2") (calm_term m scope 3 h are) refl
   calm_term (Let x m n) scope wanted h are =
-      calm_ranked 0 wanted _
+      calm_ranked 0 wanted (local_definition_text levels scope x.name m n)
       (calm_binder (codes "[") (binder_name scope x.name) (codes "=") (term_text levels scope 0 m) (codes "]") (term_text levels (bound scope x.name) 0 n)
       refl (calm_bound_name scope x.name h.2) refl (calm_term m scope 0 h.1 are) refl (calm_term n (bound scope x.name) 0 h.3 (calm_bound scope x.name h.2 are)))
 

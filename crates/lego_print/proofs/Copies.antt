@@ -135,7 +135,7 @@ module _ (numbers : ℕ → ℕ) (v : Assignment) where
           let same : x ≡ e = (let s : Some x ≡ Some e = sym (by_name n x es true p) ∙ h in cc) in
           let j : numbers e.number ≡ k = ap (λ (z : Entry). numbers z.number) (sym same) ∙ c.0.place in
           let f = at_front (numbers e.number) (same_number y.number (numbers e.number) (c.0.number ∙ sym j)) in (
-            ap (λ (m : ℕ). m + k) f ∙ sym j,
+            ap (λ (m : ℕ). m + k) f ∙ (let z : 0 + k ≡ k = omega arith in z) ∙ sym j,
             ap (λ (m : ℕ). nat_lt m (suc (length rs))) f ∙ first_less (length rs),
           )
       by_test false p r =

@@ -157,7 +157,7 @@ module _ (levels : Shown) (v : Assignment) (names : Names) (least : IsLeast leve
         ty = C.ty_same;
         body = C.body_same;
       } in
-      let more = one_more numbers v 0 before read e x copies (subst (λ (n : ℕ). IsCopy numbers v n e x) counted copy) in
+      let more = one_more numbers v 0 before read e x copies (subst (λ (n : ℕ). IsCopy numbers v n e x) (let from : length read ≡ 0 + length before = omega (arith, counted) in from) copy) in
       let text = entry_body levels scope name e.body e.mark e.ty in
       let rest = commands_read es (before ++ e ∷ []) (read ++ x ∷ []) (with_entry scope e) (behind place ((10 ∷ []) ++ text ++ 59 ∷ [])) (is ∙ sym (append_assoc before (e ∷ []) es)) none readable.1 more in
       let said = declared levels scope e.body e.mark e.ty in
