@@ -125,8 +125,10 @@ module _ (numbers : ℕ → ℕ) (v : Assignment) where
     where
       at_front : (j : ℕ) → nat_eq y.number j ≡ true → first_place j (y ∷ rs) ≡ 0
       at_front j p = rw p refl
+
       behind_front : (j : ℕ) → nat_eq y.number j ≡ false → first_place j (y ∷ rs) ≡ suc (first_place j rs)
       behind_front j p = rw p (omega arith)
+
       by_test : (b : Bool) → is_named n x.name ≡ b
           → (entry_named es n ≡ Some e
           → (first_place (numbers e.number) rs + suc k ≡ numbers e.number) × (nat_lt (first_place (numbers e.number) rs) (length rs) ≡ true))

@@ -26,6 +26,7 @@ any_inserted u v keys = by_test (list_any (nat_eq v) keys) refl
     there : (b : Bool) → nat_eq u v ≡ b → list_any (nat_eq v) keys ≡ true → list_any (nat_eq u) keys ≡ (list_any (nat_eq u) keys || b)
     there false e h = sym (or_false (list_any (nat_eq u) keys))
     there true e h = let same : list_any (nat_eq u) keys ≡ true = ap (λ (n : ℕ). list_any (nat_eq n) keys) (eq_same u v e) ∙ h in rw same refl
+
     by_test : (b : Bool) → list_any (nat_eq v) keys ≡ b → list_any (nat_eq u) (if b then keys else keys ++ v ∷ []) ≡ (list_any (nat_eq u) keys || nat_eq u v)
     by_test true h = there (nat_eq u v) refl h
     by_test false h = list_any-append (nat_eq u) keys (v ∷ []) ∙ ap (λ (b : Bool). list_any (nat_eq u) keys || b) (or_false (nat_eq u v))
@@ -73,5 +74,6 @@ places_in_order = record {
   where
     one_way : (a b c d : ℕ) → (nat_lt a c || nat_eq a c && nat_lt b d) ≡ true → (nat_lt c a || nat_eq c a && nat_lt d b) ≡ false
     one_way a b c d h = grind (arith, nat_tests)
+
     chain : (a b c d e f : ℕ) → (nat_lt a c || nat_eq a c && nat_lt b d) ≡ false → (nat_lt c e || nat_eq c e && nat_lt d f) ≡ false → (nat_lt a e || nat_eq a e && nat_lt b f) ≡ false
     chain a b c d e f p q = grind (arith, nat_tests)

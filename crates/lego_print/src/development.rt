@@ -53,14 +53,7 @@ pub fn development_text<E: Entries>(
     let listed = listed(alloc, items, universes)?;
     let mut page = Page::new(alloc);
     page.text.extend_from_slice(b"Explicit;\n")?;
-    push_commands(
-        alloc,
-        names,
-        all,
-        items,
-        Shown::Least(values),
-        &mut page,
-    )?;
+    push_commands(alloc, names, all, items, Shown::Least(values), &mut page)?;
     push_lines(&mut page.text, listed.as_slice(), values)?;
     let Page {
         text,

@@ -23,7 +23,10 @@ pub use development::development_text;
 pub use entries::Entries;
 pub use heading::Heading;
 pub use item::Item;
-pub use laws::{printed_developments_read_back, printed_names_are_free, printed_names_are_names, printed_terms_read_back};
+pub use laws::{
+    printed_developments_read_back, printed_names_are_free, printed_names_are_names,
+    printed_terms_read_back,
+};
 pub use lines::{Tried, constraint_text, try_text};
 pub use refusal::{Details, cause_text, details_text, refusal_text};
 pub use shown::Shown;

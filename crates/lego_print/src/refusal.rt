@@ -121,7 +121,11 @@ pub fn details_text(alloc: Global, details: Details<'_>) -> Result<Vec<u8>, Allo
 }
 
 /// Adds the name of a refusal and its details.
-pub(crate) fn push_cause(text: &mut Vec<u8>, heading: Heading, details: &[u8]) -> Result<(), AllocError>
+pub(crate) fn push_cause(
+    text: &mut Vec<u8>,
+    heading: Heading,
+    details: &[u8],
+) -> Result<(), AllocError>
     ensures { OnOk result (text.new.items ≡ text.old.items ++ cause_text heading details.now) }
 {
     text.extend_from_slice(heading.name())?;

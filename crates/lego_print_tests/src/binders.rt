@@ -31,7 +31,10 @@ fn binders_avoid_binders_around(rt: HostRuntime) -> Result<(), Fail> {
     let (p, v) = (prop(alloc)?, var(alloc, 0)?);
     let both = apply(alloc, &var(alloc, 1)?, &v)?;
     let made = text_of(alloc, lam(alloc, Z, &p, &lam(alloc, Z, &v, &both)?)?)?;
-    assert!(rt; made.as_slice() == b"[z:Prop][z1:z]z z1".as_slice(), "{made:?}");
+    assert!(rt;
+        made.as_slice() == b"[z:Prop][z1:z]z z1".as_slice(),
+        "{made:?}"
+    );
     Ok(())
 }
 
@@ -51,7 +54,10 @@ fn arrows_reserve_no_name(rt: HostRuntime) -> Result<(), Fail> {
     let p = prop(alloc)?;
     let inner = lam(alloc, Z, &p, &var(alloc, 0)?)?;
     let made = text_of(alloc, pi(alloc, Z, &p, &inner)?)?;
-    assert!(rt; made.as_slice() == b"Prop->[z:Prop]z".as_slice(), "{made:?}");
+    assert!(rt;
+        made.as_slice() == b"Prop->[z:Prop]z".as_slice(),
+        "{made:?}"
+    );
     Ok(())
 }
 
@@ -76,7 +82,12 @@ fn levels_are_values_or_hidden(rt: HostRuntime) -> Result<(), Fail> {
     let term = univ(alloc, raised)?;
     let made = text_under(alloc, Vec::new(alloc), term, Shown::Least(&values))?;
     assert!(rt; made.as_slice() == b"Type(1000002)".as_slice(), "{made:?}");
-    let made = text_under(alloc, Vec::new(alloc), univ(alloc, fixed(2))?, Shown::Hidden)?;
+    let made = text_under(
+        alloc,
+        Vec::new(alloc),
+        univ(alloc, fixed(2))?,
+        Shown::Hidden,
+    )?;
     assert!(rt; made.as_slice() == b"Type".as_slice(), "{made:?}");
     Ok(())
 }

@@ -26,6 +26,7 @@ pub const Z: Binder = Binder {
     name: Some(8),
     mark: Mark::Plain,
 };
+
 pub const IMPLICIT_Z: Binder = Binder {
     name: Some(8),
     mark: Mark::Implicit,

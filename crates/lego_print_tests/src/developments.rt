@@ -17,6 +17,7 @@ const BIG: Binder = Binder {
     name: Some(0),
     mark: Mark::Implicit,
 };
+
 const SMALL: Binder = Binder {
     name: Some(2),
     mark: Mark::Plain,
@@ -108,7 +109,8 @@ fn developments_list_used_universes_by_place(rt: HostRuntime) -> Result<(), Fail
         universe(2, 1, 5),
     ];
     let made = development_text(alloc, &names, &OTHERS, &items, &universes, &[5, 6, 7])?;
-    let wanted = b"Explicit;\n[A:Type(7)];\n[B:Type(5)];\n(* universe 1:4 at 7 *)\n(* universe 2:4 at 5 *)\n".as_slice();
+    let wanted =
+        b"Explicit;\n[A:Type(7)];\n[B:Type(5)];\n(* universe 1:4 at 7 *)\n(* universe 2:4 at 5 *)\n".as_slice();
     assert!(rt; made.as_slice() == wanted, "{made:?}, wanted {wanted:?}");
     Ok(())
 }

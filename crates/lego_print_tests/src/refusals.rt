@@ -93,12 +93,36 @@ fn bytes_are_shown(rt: HostRuntime) -> Result<(), Fail> {
 fn refusals_have_their_lines(rt: HostRuntime) -> Result<(), Fail> {
     let alloc = rt.alloc();
     let cases: [(Heading, Details<'_>, &[u8]); 6] = [
-        (Heading::OpenComment, Details::Nothing, b"refused 1:4 2 OpenComment"),
-        (Heading::Unexpected, Details::Text(b"->"), b"refused 1:4 5 Unexpected ->"),
-        (Heading::LongCommand, Details::Count(65_537), b"refused 1:4 8 LongCommand 65537"),
-        (Heading::TooLarge, Details::Counts(9, 21), b"refused 1:4 19 TooLarge 9, 21"),
-        (Heading::LevelTooBig, Details::Count(8), b"refused 1:4 20 LevelTooBig 8"),
-        (Heading::Full, Details::Entries(65_536), b"refused 1:4 21 Full entries 65536"),
+        (
+            Heading::OpenComment,
+            Details::Nothing,
+            b"refused 1:4 2 OpenComment",
+        ),
+        (
+            Heading::Unexpected,
+            Details::Text(b"->"),
+            b"refused 1:4 5 Unexpected ->",
+        ),
+        (
+            Heading::LongCommand,
+            Details::Count(65_537),
+            b"refused 1:4 8 LongCommand 65537",
+        ),
+        (
+            Heading::TooLarge,
+            Details::Counts(9, 21),
+            b"refused 1:4 19 TooLarge 9, 21",
+        ),
+        (
+            Heading::LevelTooBig,
+            Details::Count(8),
+            b"refused 1:4 20 LevelTooBig 8",
+        ),
+        (
+            Heading::Full,
+            Details::Entries(65_536),
+            b"refused 1:4 21 Full entries 65536",
+        ),
     ];
     for (heading, details, wanted) in cases {
         let made = line(alloc, heading, details)?;
@@ -111,10 +135,26 @@ fn refusals_have_their_lines(rt: HostRuntime) -> Result<(), Fail> {
 fn goals_are_numbered(rt: HostRuntime) -> Result<(), Fail> {
     let alloc = rt.alloc();
     let cases: [(Heading, Details<'_>, &[u8]); 4] = [
-        (Heading::UnknownGoal, Details::Goal(4), b"refused 1:4 11 UnknownGoal ?4"),
-        (Heading::CannotIntro, Details::Intro(0, 2, 1), b"refused 1:4 31 CannotIntro ?0 2, 1"),
-        (Heading::NoGoal, Details::GoalOf(7, 2), b"refused 1:4 34 NoGoal ?7, 2"),
-        (Heading::NoGoal, Details::Count(2), b"refused 1:4 34 NoGoal 2"),
+        (
+            Heading::UnknownGoal,
+            Details::Goal(4),
+            b"refused 1:4 11 UnknownGoal ?4",
+        ),
+        (
+            Heading::CannotIntro,
+            Details::Intro(0, 2, 1),
+            b"refused 1:4 31 CannotIntro ?0 2, 1",
+        ),
+        (
+            Heading::NoGoal,
+            Details::GoalOf(7, 2),
+            b"refused 1:4 34 NoGoal ?7, 2",
+        ),
+        (
+            Heading::NoGoal,
+            Details::Count(2),
+            b"refused 1:4 34 NoGoal 2",
+        ),
     ];
     for (heading, details, wanted) in cases {
         let made = line(alloc, heading, details)?;
@@ -127,14 +167,20 @@ fn goals_are_numbered(rt: HostRuntime) -> Result<(), Fail> {
 fn terms_stand_in_details(rt: HostRuntime) -> Result<(), Fail> {
     let alloc = rt.alloc();
     let made = line(alloc, Heading::NotAType, Details::Typing(b"a", b"A"))?;
-    assert!(rt; made.as_slice() == b"refused 1:4 13 NotAType a : A".as_slice(), "{made:?}");
+    assert!(rt;
+        made.as_slice() == b"refused 1:4 13 NotAType a : A".as_slice(),
+        "{made:?}"
+    );
     let made = line(alloc, Heading::Mismatch, Details::Wanted(b"a", b"A", b"B"))?;
     assert!(rt;
         made.as_slice() == b"refused 1:4 16 Mismatch a : A, wanted B".as_slice(),
         "{made:?}"
     );
     let made = line(alloc, Heading::Clash, Details::Sides(b"A", b"B"))?;
-    assert!(rt; made.as_slice() == b"refused 1:4 24 Clash A, B".as_slice(), "{made:?}");
+    assert!(rt;
+        made.as_slice() == b"refused 1:4 24 Clash A, B".as_slice(),
+        "{made:?}"
+    );
     Ok(())
 }
 
@@ -146,7 +192,10 @@ fn constraints_have_lines(rt: HostRuntime) -> Result<(), Fail> {
         column: 29,
     };
     let made = constraint_text(alloc, Some(place), fixed(3), fixed(2))?;
-    assert!(rt; made.as_slice() == b"  1:29: 3 <= 2\n".as_slice(), "{made:?}");
+    assert!(rt;
+        made.as_slice() == b"  1:29: 3 <= 2\n".as_slice(),
+        "{made:?}"
+    );
     Ok(())
 }
 
@@ -162,17 +211,31 @@ fn levels_of_variables_are_shown(rt: HostRuntime) -> Result<(), Fail> {
         plus: 0,
     };
     let made = constraint_text(alloc, None, low, high)?;
-    assert!(rt; made.as_slice() == b"  implied: u4+1 <= u0\n".as_slice(), "{made:?}");
+    assert!(rt;
+        made.as_slice() == b"  implied: u4+1 <= u0\n".as_slice(),
+        "{made:?}"
+    );
     Ok(())
 }
 
 #[test]
 fn tries_have_lines(rt: HostRuntime) -> Result<(), Fail> {
     let alloc = rt.alloc();
-    let made = try_text(alloc, Tried::Arguments(0), Heading::Mismatch, b"a : A, wanted B")?;
-    assert!(rt; made.as_slice() == b"  0: Mismatch a : A, wanted B\n".as_slice(), "{made:?}");
+    let made = try_text(
+        alloc,
+        Tried::Arguments(0),
+        Heading::Mismatch,
+        b"a : A, wanted B",
+    )?;
+    assert!(rt;
+        made.as_slice() == b"  0: Mismatch a : A, wanted B\n".as_slice(),
+        "{made:?}"
+    );
     let made = try_text(alloc, Tried::Hypothesis(b"h"), Heading::Universe, b"")?;
-    assert!(rt; made.as_slice() == b"  h: Universe\n".as_slice(), "{made:?}");
+    assert!(rt;
+        made.as_slice() == b"  h: Universe\n".as_slice(),
+        "{made:?}"
+    );
     let made = cause_text(alloc, Heading::NoFit, b"")?;
     assert!(rt; made.as_slice() == b"NoFit".as_slice(), "{made:?}");
     Ok(())

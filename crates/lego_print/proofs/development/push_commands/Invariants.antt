@@ -8,5 +8,5 @@ abbrev pub invariant-loop-item : goal.invariant-loop-item
 invariant-loop-item g l = record {
   none : l.page.locals ≡ [];
   text : l.page.text.items ++ entry_commands l.levels (outer_scope l.names (g.E.Entries.called l.all) l.front.names) (item_entries (drop l.item-index l.items))
-  ≡ l.fn.page.text.items ++ entry_commands l.levels (outer_scope l.names (g.E.Entries.called l.all) []) (item_entries l.items);
+      ≡ l.fn.page.text.items ++ entry_commands l.levels (outer_scope l.names (g.E.Entries.called l.all) []) (item_entries l.items);
 }
