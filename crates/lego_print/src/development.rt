@@ -26,13 +26,14 @@ fn push_commands<E: Entries>(
     requires { page.old.locals ≡ [] }
     ensures { OnOk result (page.new.text.items ≡ page.old.text.items ++ entry_commands levels.entry (outer_scope names.now (E.called all.now) []) (item_entries items.now)) }
 {
-    let mut front = Front {
-        all,
-        names: NamesBefore::new(alloc),
-    };
+    let mut before = NamesBefore::new(alloc);
     for item in items {
+        let front = Front {
+            all,
+            names: &before,
+        };
         push_command(alloc, names, &front, *item, levels, page)?;
-        front.names.add(item.name)?;
+        before.add(item.name)?;
     }
     Ok(())
 }

@@ -73,11 +73,11 @@ impl NamesBefore {
 #[derive(Drop)]
 pub(crate) struct Front<'a, E> {
     pub all: &'a E,
-    pub names: NamesBefore,
+    pub names: &'a NamesBefore,
 }
 
 impl<E: Entries> Entries for Front<'_, E> {
-    ghost in_scope = { λ f. f.names };
+    ghost in_scope = { λ f. f.names.now };
 
     ghost called = { λ f. E.called f.all.now };
 
