@@ -5,7 +5,6 @@ use Rattle.std.specs.List.{list_any}
 use Rattle.std.specs.declared.result.Result.{Result}
 use Rattle.std.specs.declared.result.Result.TheVariants.{Ok, Err}
 use Rattle.std.proofs.lemmas.Bool.Decides.{nat_tests}
-use Rattle.std.proofs.lemmas.List.Folds.{list_any-append}
 use Rattle.lego_print.specs.declared.universes.Universe.{Universe}
 use Rattle.lego_grammar.specs.Grammar.{Names}
 use Rattle.lego_print.specs.declared.item.Item.{Item}
@@ -15,28 +14,8 @@ use Rattle.lego_print.specs.Entries.{item_entry, item_entries, entry_command}
 use Rattle.lego_print.specs.Texts.{outer_scope}
 use Rattle.std.specs.Cmp.{IsStrictWeakOrder}
 
-pub or_assoc : (a b c : Bool) → ((a || b) || c) ≡ (a || (b || c))
-or_assoc true b c = refl
-or_assoc false b c = refl
-
-pub or_false : (a : Bool) → (a || false) ≡ a
-or_false true = refl
-or_false false = refl
-
 eq_same : (u v : ℕ) → nat_eq u v ≡ true → u ≡ v
 eq_same u v h = grind (arith, nat_tests)
-
--- a key that is inserted, if it is new
-pub any_inserted : (u v : ℕ) (keys : List ℕ) → list_any (nat_eq u) (if list_any (nat_eq v) keys then keys else keys ++ v ∷ []) ≡ (list_any (nat_eq u) keys || nat_eq u v)
-any_inserted u v keys = by_test (list_any (nat_eq v) keys) refl
-  where
-    there : (b : Bool) → nat_eq u v ≡ b → list_any (nat_eq v) keys ≡ true → list_any (nat_eq u) keys ≡ (list_any (nat_eq u) keys || b)
-    there false e h = sym (or_false (list_any (nat_eq u) keys))
-    there true e h = let same : list_any (nat_eq u) keys ≡ true = ap (λ (n : ℕ). list_any (nat_eq n) keys) (eq_same u v e) ∙ h in rw same refl
-
-    by_test : (b : Bool) → list_any (nat_eq v) keys ≡ b → list_any (nat_eq u) (if b then keys else keys ++ v ∷ []) ≡ (list_any (nat_eq u) keys || nat_eq u v)
-    by_test true h = there (nat_eq u v) refl h
-    by_test false h = list_any-append (nat_eq u) keys (v ∷ []) ∙ ap (λ (b : Bool). list_any (nat_eq u) keys || b) (or_false (nat_eq u v))
 
 -- universes that are used by tests that agree
 pub used_agree : (f g : ℕ → Bool) (us : List Universe) → ((u : ℕ) → f u ≡ g u) → used_once f us ≡ used_once g us
