@@ -8,6 +8,14 @@ pub mod ReadParts
 pub mod FreeNames
 pub mod ReadLocals
 pub mod ReadForms
+pub mod Renumbered
 pub mod ReadTerms
 pub mod CountedLemmas
 pub mod PrintedNames
+pub mod Ranks
+pub mod Calm
+pub mod ReadCommands
+pub mod Copies
+pub mod UniverseLines
+pub mod ReadDevelopments
+pub mod DevelopmentLemmas

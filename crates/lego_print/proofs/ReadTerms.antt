@@ -1,5 +1,5 @@
 -- A printed term is read as the term, in each rank.
-use Rattle.std.proofs.Common.{◌≡◌, ℕ, ◌<◌, ◌^◌, Bool, true, false, if◌then◌else◌, List, [], ◌∷◌, ◌++◌, append-nil, Option, Some, None, unwrap_or, refl, sym, ap, subst, arith}
+use Rattle.std.proofs.Common.{◌≡◌, ℕ, ◌<◌, ◌^◌, Bool, true, false, if◌then◌else◌, List, [], ◌∷◌, ◌++◌, append-nil, Option, Some, None, unwrap_or, refl, sym, ap, ◌∙◌, subst, arith}
 use Rattle.std.specs.Prelude.{codes, decimal, slice_get, option_and_then, MatchBool}
 use Rattle.lego_base.specs.declared.place.Place.{Place}
 use Rattle.lego_term.specs.Levels.{Assignment, level_value}
@@ -29,6 +29,7 @@ use Rattle.lego_print.proofs.NamesLemmas.{free_no_local, free_no_entry}
 use Rattle.lego_print.proofs.ReadForms.{Both, form_of, both_atom, both_ranked, arrow_read, hash_read, bar_read, bind_read, local_read, first_read, second_read, univ_read, name_is, promote, post_to, as_term}
 use Rattle.lego_print.proofs.ReadLocals.{AreLocals, local_found, local_absent}
 use Rattle.lego_print.proofs.ReadParts.{CanRead, as_form, name_read, prop_read, two_parts, binder_parts, blank_parts, pair_read}
+use Rattle.lego_print.proofs.Renumbered.{renumbered, same_numbers}
 use Rattle.lego_print.proofs.ReadTokens.{IsNoStar, no_star_of, no_star_more, name_star}
 
 -- the text of a Sigma type, which is read as one
@@ -45,9 +46,9 @@ plain_is : (mark : Mark) → is_plain mark ≡ true → mark ≡ Plain
 plain_is Plain h = refl
 plain_is Implicit h = absurd (cc)
 
-module _ (levels : Shown) (v : Assignment) (names : Names) (es : List Entry) (least : IsLeast levels v) where
+module _ (levels : Shown) (v : Assignment) (names : Names) (es : List Entry) (numbers : ℕ → ℕ) (least : IsLeast levels v) where
   abbrev IsReadAs : Scope → Reading → ℕ → Core → Type 0
-  IsReadAs scope locals wanted t = Both names es locals wanted (term_text levels scope wanted t) (marked v t)
+  IsReadAs scope locals wanted t = Both names es locals wanted (term_text levels scope wanted t) (renumbered numbers v t)
 
   abbrev AreBound : Scope → Reading → Type 0
   AreBound scope locals = AreLocals names scope.names scope.entries scope.locals locals
@@ -75,14 +76,14 @@ module _ (levels : Shown) (v : Assignment) (names : Names) (es : List Entry) (le
       subst (λ (t : List ℕ). Both names es locals wanted t (Var i)) is
       (both_atom names es wanted (name_read names es text f.text_is (Var i) (Var i) n (λ p. ReadsExplicitly.local f.found) refl) (name_star text n))
 
-  constant_both : (scope : Scope) (locals : Reading) (wanted k : ℕ) → IsEntryText names es scope k → AreBound scope locals
-      → Both names es locals wanted (constant_text scope k) (Const k)
+  constant_both : (scope : Scope) (locals : Reading) (wanted k : ℕ) → IsEntryText names es scope k (numbers k) → AreBound scope locals
+      → Both names es locals wanted (constant_text scope k) (Const (numbers k))
   constant_both scope locals wanted k c are =
       let h = c.text in
       let n = name_is (constant_text scope k) h.is_name in
       let absent = local_absent names scope.names scope.entries scope.locals locals are h.number (constant_text scope k) h.held c.in_scope in
       both_atom names es wanted
-      (name_read names es (constant_text scope k) h (Const k) (Const k) n
+      (name_read names es (constant_text scope k) h (Const (numbers k)) (Const (numbers k)) n
       (λ p. subst (λ (m : ℕ). ReadsExplicitly es no_variables locals (Named p.place h.number) (Const m)) c.number (ReadsExplicitly.entry absent c.named)) refl)
       (name_star (constant_text scope k) n)
 
@@ -95,22 +96,22 @@ module _ (levels : Shown) (v : Assignment) (names : Names) (es : List Entry) (le
 
   -- a binder with a domain, as a whole
   bind_both : (scope : Scope) (locals : Reading) (wanted : ℕ) (mark : Mark) (name : Option ℕ) (a b : Core) (r : IsBinderText names scope (binder_name scope name))
-      → Both names es locals 0 (term_text levels scope 0 a) (marked v a)
-      → Both names es (LocalVariable.Bound (Some r.text_is.number) ∷ locals) 0 (term_text levels (bound scope name) 0 b) (marked v b)
-      → CanRead names es locals Term (codes "{" ++ binder_name scope name ++ sign_text mark ++ term_text levels scope 0 a ++ codes "}" ++ term_text levels (bound scope name) 0 b) (Pi mark (marked v a) (marked v b))
+      → Both names es locals 0 (term_text levels scope 0 a) (renumbered numbers v a)
+      → Both names es (LocalVariable.Bound (Some r.text_is.number) ∷ locals) 0 (term_text levels (bound scope name) 0 b) (renumbered numbers v b)
+      → CanRead names es locals Term (codes "{" ++ binder_name scope name ++ sign_text mark ++ term_text levels scope 0 a ++ codes "}" ++ term_text levels (bound scope name) 0 b) (Pi mark (renumbered numbers v a) (renumbered numbers v b))
   bind_both scope locals wanted Plain name a b r A B =
-      bind_read names es Kinds.Pi Plain tt (binder_name scope name) (term_text levels scope 0 a) (term_text levels (bound scope name) 0 b) r.text_is (name_is (binder_name scope name) r.text_is.is_name) (marked v a) (marked v b) A.read B.read
+      bind_read names es Kinds.Pi Plain tt (binder_name scope name) (term_text levels scope 0 a) (term_text levels (bound scope name) 0 b) r.text_is (name_is (binder_name scope name) r.text_is.is_name) (renumbered numbers v a) (renumbered numbers v b) A.read B.read
   bind_both scope locals wanted Implicit name a b r A B =
-      bind_read names es Kinds.Pi Implicit tt (binder_name scope name) (term_text levels scope 0 a) (term_text levels (bound scope name) 0 b) r.text_is (name_is (binder_name scope name) r.text_is.is_name) (marked v a) (marked v b) A.read B.read
+      bind_read names es Kinds.Pi Implicit tt (binder_name scope name) (term_text levels scope 0 a) (term_text levels (bound scope name) 0 b) r.text_is (name_is (binder_name scope name) r.text_is.is_name) (renumbered numbers v a) (renumbered numbers v b) A.read B.read
 
   lambda_both : (scope : Scope) (locals : Reading) (mark : Mark) (name : Option ℕ) (a b : Core) (r : IsBinderText names scope (binder_name scope name))
-      → Both names es locals 0 (term_text levels scope 0 a) (marked v a)
-      → Both names es (LocalVariable.Bound (Some r.text_is.number) ∷ locals) 0 (term_text levels (bound scope name) 0 b) (marked v b)
-      → CanRead names es locals Term (codes "[" ++ binder_name scope name ++ sign_text mark ++ term_text levels scope 0 a ++ codes "]" ++ term_text levels (bound scope name) 0 b) (Lam mark (marked v a) (marked v b))
+      → Both names es locals 0 (term_text levels scope 0 a) (renumbered numbers v a)
+      → Both names es (LocalVariable.Bound (Some r.text_is.number) ∷ locals) 0 (term_text levels (bound scope name) 0 b) (renumbered numbers v b)
+      → CanRead names es locals Term (codes "[" ++ binder_name scope name ++ sign_text mark ++ term_text levels scope 0 a ++ codes "]" ++ term_text levels (bound scope name) 0 b) (Lam mark (renumbered numbers v a) (renumbered numbers v b))
   lambda_both scope locals Plain name a b r A B =
-      bind_read names es Kinds.Lambda Plain tt (binder_name scope name) (term_text levels scope 0 a) (term_text levels (bound scope name) 0 b) r.text_is (name_is (binder_name scope name) r.text_is.is_name) (marked v a) (marked v b) A.read B.read
+      bind_read names es Kinds.Lambda Plain tt (binder_name scope name) (term_text levels scope 0 a) (term_text levels (bound scope name) 0 b) r.text_is (name_is (binder_name scope name) r.text_is.is_name) (renumbered numbers v a) (renumbered numbers v b) A.read B.read
   lambda_both scope locals Implicit name a b r A B =
-      bind_read names es Kinds.Lambda Implicit tt (binder_name scope name) (term_text levels scope 0 a) (term_text levels (bound scope name) 0 b) r.text_is (name_is (binder_name scope name) r.text_is.is_name) (marked v a) (marked v b) A.read B.read
+      bind_read names es Kinds.Lambda Implicit tt (binder_name scope name) (term_text levels scope 0 a) (term_text levels (bound scope name) 0 b) r.text_is (name_is (binder_name scope name) r.text_is.is_name) (renumbered numbers v a) (renumbered numbers v b) A.read B.read
 
   apply_both : (locals : Reading) (mark : Mark) (f a : List ℕ) (x y : MarkedTerm) → Both names es locals 2 f x → Both names es locals 3 a y
       → CanRead names es locals (form_of 2) (f ++ argument_sign mark ++ a) (App mark x y)
@@ -132,15 +133,15 @@ module _ (levels : Shown) (v : Assignment) (names : Names) (es : List Entry) (le
       → IsReadAs scope locals 1 a → IsReadAs scope locals 0 a → MatchBool u (ReadsNone scope locals 0 b) (ReadsBound scope locals x.name b)
       → CanRead names es locals Term (if u
       then term_text levels scope 1 a ++ codes "->" ++ term_text levels (unbound scope) 0 b
-      else codes "{" ++ binder_name scope x.name ++ sign_text x.mark ++ term_text levels scope 0 a ++ codes "}" ++ term_text levels (bound scope x.name) 0 b) (Pi x.mark (marked v a) (marked v b))
+      else codes "{" ++ binder_name scope x.name ++ sign_text x.mark ++ term_text levels scope 0 a ++ codes "}" ++ term_text levels (bound scope x.name) 0 b) (Pi x.mark (renumbered numbers v a) (renumbered numbers v b))
       × IsNoStar (if u
       then term_text levels scope 1 a ++ codes "->" ++ term_text levels (unbound scope) 0 b
       else codes "{" ++ binder_name scope x.name ++ sign_text x.mark ++ term_text levels scope 0 a ++ codes "}" ++ term_text levels (bound scope x.name) 0 b)
   pi_both scope locals wanted x a b true e A1 A0 B =
       let text = term_text levels scope 1 a ++ codes "->" ++ term_text levels (unbound scope) 0 b in
       let plain : x.mark ≡ Plain = plain_is x.mark (and_true (is_plain x.mark) (is_unused b) e).0 in (
-        subst (λ (m : Mark). CanRead names es locals Term text (Pi m (marked v a) (marked v b))) (sym plain)
-            (arrow_read names es (term_text levels scope 1 a) (term_text levels (unbound scope) 0 b) (marked v a) (marked v b) A1.read B.read),
+        subst (λ (m : Mark). CanRead names es locals Term text (Pi m (renumbered numbers v a) (renumbered numbers v b))) (sym plain)
+            (arrow_read names es (term_text levels scope 1 a) (term_text levels (unbound scope) 0 b) (renumbered numbers v a) (renumbered numbers v b) A1.read B.read),
         no_star_more (term_text levels scope 1 a ++ codes "->") (term_text levels (unbound scope) 0 b) (no_star_more (term_text levels scope 1 a) (codes "->") A1.star),
       )
   pi_both scope locals wanted x a b false e A1 A0 B = (bind_both scope locals wanted x.mark x.name a b B.0 A0 B.1, no_star_of 123 _ refl)
@@ -150,10 +151,10 @@ module _ (levels : Shown) (v : Assignment) (names : Names) (es : List Entry) (le
       → MatchBool u (ReadsNone scope locals 1 b) (ReadsBound scope locals name b)
       → SigmaRead names es locals (if u then 1 else 0) (if u
       then term_text levels scope 2 a ++ codes "#" ++ term_text levels (unbound scope) 1 b
-      else codes "<" ++ binder_name scope name ++ codes ":" ++ term_text levels scope 0 a ++ codes ">" ++ term_text levels (bound scope name) 0 b) (marked v a) (marked v b)
+      else codes "<" ++ binder_name scope name ++ codes ":" ++ term_text levels scope 0 a ++ codes ">" ++ term_text levels (bound scope name) 0 b) (renumbered numbers v a) (renumbered numbers v b)
   unfolding hash_read two_parts bind_read binder_parts as_term as_form
   sigma_read scope locals name a b true A2 A0 B =
-      let r = hash_read names es (term_text levels scope 2 a) (term_text levels (unbound scope) 1 b) (marked v a) (marked v b) A2.read B.read in
+      let r = hash_read names es (term_text levels scope 2 a) (term_text levels (unbound scope) 1 b) (renumbered numbers v a) (renumbered numbers v b) A2.read B.read in
       record {
         read = r;
         star = no_star_more (term_text levels scope 2 a ++ codes "#") (term_text levels (unbound scope) 1 b) (no_star_more (term_text levels scope 2 a) (codes "#") A2.star);
@@ -165,7 +166,7 @@ module _ (levels : Shown) (v : Assignment) (names : Names) (es : List Entry) (le
       }
   sigma_read scope locals name a b false A2 A0 B =
       let h = B.0.text_is in
-      let r = bind_read names es Kinds.Sigma Plain tt (binder_name scope name) (term_text levels scope 0 a) (term_text levels (bound scope name) 0 b) h (name_is (binder_name scope name) h.is_name) (marked v a) (marked v b) A0.read B.1.read in
+      let r = bind_read names es Kinds.Sigma Plain tt (binder_name scope name) (term_text levels scope 0 a) (term_text levels (bound scope name) 0 b) h (name_is (binder_name scope name) h.is_name) (renumbered numbers v a) (renumbered numbers v b) A0.read B.1.read in
       record {
         read = r;
         star = no_star_of 60 _ refl;
@@ -192,16 +193,16 @@ module _ (levels : Shown) (v : Assignment) (names : Names) (es : List Entry) (le
 
   let_both : (scope : Scope) (locals : Reading) (mark : Mark) (name : Option ℕ) (m n : Core) (r : IsBinderText names scope (binder_name scope name)) → mark ≡ Plain
       → (M : IsReadAs scope locals 0 m) → IsReadAs (bound scope name) (LocalVariable.Defined r.text_is.number M.read.core ∷ locals) 0 n
-      → CanRead names es locals Term (codes "[" ++ binder_name scope name ++ codes "=" ++ term_text levels scope 0 m ++ codes "]" ++ term_text levels (bound scope name) 0 n) (Let mark (marked v m) (marked v n))
+      → CanRead names es locals Term (codes "[" ++ binder_name scope name ++ codes "=" ++ term_text levels scope 0 m ++ codes "]" ++ term_text levels (bound scope name) 0 n) (Let mark (renumbered numbers v m) (renumbered numbers v n))
   let_both scope locals mark name m n r plain M N =
-      subst (λ (k : Mark). CanRead names es locals Term (codes "[" ++ binder_name scope name ++ codes "=" ++ term_text levels scope 0 m ++ codes "]" ++ term_text levels (bound scope name) 0 n) (Let k (marked v m) (marked v n))) (sym plain)
-      (local_read names es (binder_name scope name) (term_text levels scope 0 m) (term_text levels (bound scope name) 0 n) r.text_is (name_is (binder_name scope name) r.text_is.is_name) (marked v m) (marked v n) M.read N.read)
+      subst (λ (k : Mark). CanRead names es locals Term (codes "[" ++ binder_name scope name ++ codes "=" ++ term_text levels scope 0 m ++ codes "]" ++ term_text levels (bound scope name) 0 n) (Let k (renumbered numbers v m) (renumbered numbers v n))) (sym plain)
+      (local_read names es (binder_name scope name) (term_text levels scope 0 m) (term_text levels (bound scope name) 0 n) r.text_is (name_is (binder_name scope name) r.text_is.is_name) (renumbered numbers v m) (renumbered numbers v n) M.read N.read)
 
   -- a projection
   post_both : (locals : Reading) (wanted : ℕ) (text : List ℕ) (c : MarkedTerm) → CanRead names es locals Post text c → IsNoStar text → Both names es locals wanted text c
   post_both locals wanted text c r star = record { read = as_form names es (λ d ns w p. post_to names d ns w wanted p) r; star = star }
 
-  pub read_term : (t : Core) (scope : Scope) (locals : Reading) (wanted : ℕ) → IsReadable names es v scope t → AreBound scope locals → IsReadAs scope locals wanted t
+  pub read_term : (t : Core) (scope : Scope) (locals : Reading) (wanted : ℕ) → IsReadable names es numbers v scope t → AreBound scope locals → IsReadAs scope locals wanted t
   read_term (Var i) scope locals wanted h are = local_both scope locals wanted i h.0 h.1 are
   read_term (Const k) scope locals wanted h are = constant_both scope locals wanted k h are
   read_term Prop scope locals wanted h are = both_atom names es wanted (prop_read names es) (no_star_of 80 (114 ∷ 111 ∷ 112 ∷ []) refl)
@@ -222,7 +223,7 @@ module _ (levels : Shown) (v : Assignment) (names : Names) (es : List Entry) (le
   read_term (App mark m n) scope locals wanted h are =
       let M = read_term m scope locals 2 h.0 are in
       let N = read_term n scope locals 3 h.1 are in
-      both_ranked names es 2 wanted (apply_both locals mark (term_text levels scope 2 m) (term_text levels scope 3 n) (marked v m) (marked v n) M N)
+      both_ranked names es 2 wanted (apply_both locals mark (term_text levels scope 2 m) (term_text levels scope 3 n) (renumbered numbers v m) (renumbered numbers v n) M N)
       (no_star_more (term_text levels scope 2 m ++ argument_sign mark) (term_text levels scope 3 n) (no_star_more (term_text levels scope 2 m) (argument_sign mark) M.star))
   read_term (Sigma x a b) scope locals wanted h are =
       let A2 = read_term a scope locals 2 h.1 are in
@@ -231,7 +232,7 @@ module _ (levels : Shown) (v : Assignment) (names : Names) (es : List Entry) (le
       (λ p. read_term b (unbound scope) (LocalVariable.Bound None ∷ locals) 1 p (refl, are))
       (λ q. (q.0, read_term b (bound scope x.name) (LocalVariable.Bound (Some q.0.text_is.number) ∷ locals) 0 q.1 (bound_more scope locals x.name (LocalVariable.Bound (Some q.0.text_is.number)) q.0 refl are)))
       h.2 in
-      sigma_both scope locals wanted x.mark (sigma_rank b) _ (marked v a) (marked v b) h.0 (sigma_read scope locals x.name a b (is_unused b) A2 A0 B)
+      sigma_both scope locals wanted x.mark (sigma_rank b) _ (renumbered numbers v a) (renumbered numbers v b) h.0 (sigma_read scope locals x.name a b (is_unused b) A2 A0 B)
   read_term (Pair x a b m n) scope locals wanted h are =
       let A2 = read_term a scope locals 2 h.1 are in
       let A0 = read_term a scope locals 0 h.1 are in
@@ -241,15 +242,15 @@ module _ (levels : Shown) (v : Assignment) (names : Names) (es : List Entry) (le
       h.2 in
       let M = read_term m scope locals 0 h.3 are in
       let N = read_term n scope locals 0 h.4 are in
-      pair_both locals wanted x.mark (sigma_rank b) (term_text levels scope 0 m) (term_text levels scope 0 n) _ (marked v m) (marked v n) (marked v a) (marked v b) h.0 M N
+      pair_both locals wanted x.mark (sigma_rank b) (term_text levels scope 0 m) (term_text levels scope 0 n) _ (renumbered numbers v m) (renumbered numbers v n) (renumbered numbers v a) (renumbered numbers v b) h.0 M N
       (sigma_read scope locals x.name a b (is_unused b) A2 A0 B)
   read_term (Fst m) scope locals wanted h are =
       let M = read_term m scope locals 3 h are in
-      post_both locals wanted (term_text levels scope 3 m ++ codes ".1") (Fst (marked v m)) (first_read names es (term_text levels scope 3 m) (marked v m) M.read)
+      post_both locals wanted (term_text levels scope 3 m ++ codes ".1") (Fst (renumbered numbers v m)) (first_read names es (term_text levels scope 3 m) (renumbered numbers v m) M.read)
       (no_star_more (term_text levels scope 3 m) (codes ".1") M.star)
   read_term (Snd m) scope locals wanted h are =
       let M = read_term m scope locals 3 h are in
-      post_both locals wanted (term_text levels scope 3 m ++ codes ".2") (Snd (marked v m)) (second_read names es (term_text levels scope 3 m) (marked v m) M.read)
+      post_both locals wanted (term_text levels scope 3 m ++ codes ".2") (Snd (renumbered numbers v m)) (second_read names es (term_text levels scope 3 m) (renumbered numbers v m) M.read)
       (no_star_more (term_text levels scope 3 m) (codes ".2") M.star)
   read_term (Let x m n) scope locals wanted h are =
       let M = read_term m scope locals 0 h.1 are in
@@ -262,10 +263,10 @@ nothing_behind c more e = absurd (cc)
 
 -- a printed term reads back
 pub reads_back : (levels : Shown) (v : Assignment) (names : Names) (es : List Entry) (scope : Scope) (place : Place) (t : Core)
-    → IsLeast levels v → scope.locals ≡ [] → IsReadable names es v scope t → ReadsBack names es place (term_text levels scope 0 t) v t
+    → IsLeast levels v → scope.locals ≡ [] → IsReadable names es (λ k. k) v scope t → ReadsBack names es place (term_text levels scope 0 t) v t
 reads_back levels v names es scope place t least none readable =
     let are : AreLocals names scope.names scope.entries scope.locals [] = subst (λ (ls : List (Option (List ℕ))). AreLocals names scope.names scope.entries ls []) (sym none) tt in
-    let r = (read_term levels v names es least t scope [] 0 readable are).read in
+    let r = (read_term levels v names es (λ k. k) least t scope [] 0 readable are).read in
     let R = r.reads 0 (start place) [] nothing_behind in
     record {
       tokens = R.first ∷ R.others;
@@ -281,6 +282,6 @@ reads_back levels v names es scope place t least none readable =
       parsed = R.parsed;
       core = r.core;
       read = R.read;
-      same = r.is;
+      same = r.is ∙ same_numbers (marked v t);
       printable = R.printable;
     }

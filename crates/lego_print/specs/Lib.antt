@@ -4,4 +4,7 @@ pub mod Headings
 pub mod Entries
 pub mod ReadBack
 pub mod Refusals
+pub mod Developments
+pub mod Denoted
+pub mod Lines
 pub mod private

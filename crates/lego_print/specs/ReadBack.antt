@@ -33,13 +33,13 @@ pub record IsHeldText (names : Names) (text : List ℕ) : Type 0 where
   pub held : slice_get names number ≡ Some text
   pub is_name : token_of text ≡ Some (Name text)
 
--- the constant is printed as the name of its entry, which is in scope
-pub record IsEntryText (names : Names) (es : List Entry) (scope : Scope) (k : ℕ) : Type 0 where
+-- the constant is printed as the name of its entry, which is in scope, and has this number
+pub record IsEntryText (names : Names) (es : List Entry) (scope : Scope) (k number_is : ℕ) : Type 0 where
   pub text : IsHeldText names (constant_text scope k)
   pub in_scope : list_any (is_text_of scope.names (constant_text scope k)) scope.entries ≡ true
   pub entry : Entry
   pub named : entry_named es text.number ≡ Some entry
-  pub number : entry.number ≡ k
+  pub number : entry.number ≡ number_is
 
 -- the printed name of a binder is a name that the names hold
 pub record IsBinderText (names : Names) (scope : Scope) (text : List ℕ) : Type 0 where
@@ -48,33 +48,34 @@ pub record IsBinderText (names : Names) (scope : Scope) (text : List ℕ) : Type
 
 -- The term can be read back, by the entries es and these names, where it stands in the scope: each constant is the name of an
 -- entry in scope, each variable and each binder has a printed name, and these names are held; binders of Sigma types, pairs and
--- local definitions are plain, and values of levels are numbers of 64 bits.
-abbrev pub IsReadable : Names → List Entry → Assignment → Scope → Core → Type 0
-IsReadable names es v scope (Var i) = (text : List ℕ) × (slice_get scope.locals i ≡ Some (Some text))
-IsReadable names es v scope (Const k) = IsEntryText names es scope k
-IsReadable names es v scope Prop = Unit {0}
-IsReadable names es v scope (Univ l) = level_value v l < 2 ^ 64
-IsReadable names es v scope (Pi x a b) =
-    IsReadable names es v scope a
-    × MatchBool (is_arrow x b) (IsReadable names es v (unbound scope) b)
-    (IsBinderText names scope (binder_name scope x.name) × IsReadable names es v (bound scope x.name) b)
-IsReadable names es v scope (Lam x a m) =
-    IsReadable names es v scope a × IsBinderText names scope (binder_name scope x.name) × IsReadable names es v (bound scope x.name) m
-IsReadable names es v scope (App mark m n) = IsReadable names es v scope m × IsReadable names es v scope n
-IsReadable names es v scope (Sigma x a b) =
-    (x.mark ≡ Plain) × IsReadable names es v scope a
-    × MatchBool (is_unused b) (IsReadable names es v (unbound scope) b)
-    (IsBinderText names scope (binder_name scope x.name) × IsReadable names es v (bound scope x.name) b)
-IsReadable names es v scope (Pair x a b m n) =
-    (x.mark ≡ Plain) × IsReadable names es v scope a
-    × MatchBool (is_unused b) (IsReadable names es v (unbound scope) b)
-    (IsBinderText names scope (binder_name scope x.name) × IsReadable names es v (bound scope x.name) b)
-    × IsReadable names es v scope m × IsReadable names es v scope n
-IsReadable names es v scope (Fst m) = IsReadable names es v scope m
-IsReadable names es v scope (Snd m) = IsReadable names es v scope m
-IsReadable names es v scope (Let x m n) =
-    (x.mark ≡ Plain) × IsReadable names es v scope m × IsBinderText names scope (binder_name scope x.name)
-    × IsReadable names es v (bound scope x.name) n
+-- local definitions are plain, and values of levels are numbers of 64 bits. `numbers` gives the number of each constant's entry
+-- among es.
+abbrev pub IsReadable : Names → List Entry → (ℕ → ℕ) → Assignment → Scope → Core → Type 0
+IsReadable names es numbers v scope (Var i) = (text : List ℕ) × (slice_get scope.locals i ≡ Some (Some text))
+IsReadable names es numbers v scope (Const k) = IsEntryText names es scope k (numbers k)
+IsReadable names es numbers v scope Prop = Unit {0}
+IsReadable names es numbers v scope (Univ l) = level_value v l < 2 ^ 64
+IsReadable names es numbers v scope (Pi x a b) =
+    IsReadable names es numbers v scope a
+    × MatchBool (is_arrow x b) (IsReadable names es numbers v (unbound scope) b)
+    (IsBinderText names scope (binder_name scope x.name) × IsReadable names es numbers v (bound scope x.name) b)
+IsReadable names es numbers v scope (Lam x a m) =
+    IsReadable names es numbers v scope a × IsBinderText names scope (binder_name scope x.name) × IsReadable names es numbers v (bound scope x.name) m
+IsReadable names es numbers v scope (App mark m n) = IsReadable names es numbers v scope m × IsReadable names es numbers v scope n
+IsReadable names es numbers v scope (Sigma x a b) =
+    (x.mark ≡ Plain) × IsReadable names es numbers v scope a
+    × MatchBool (is_unused b) (IsReadable names es numbers v (unbound scope) b)
+    (IsBinderText names scope (binder_name scope x.name) × IsReadable names es numbers v (bound scope x.name) b)
+IsReadable names es numbers v scope (Pair x a b m n) =
+    (x.mark ≡ Plain) × IsReadable names es numbers v scope a
+    × MatchBool (is_unused b) (IsReadable names es numbers v (unbound scope) b)
+    (IsBinderText names scope (binder_name scope x.name) × IsReadable names es numbers v (bound scope x.name) b)
+    × IsReadable names es numbers v scope m × IsReadable names es numbers v scope n
+IsReadable names es numbers v scope (Fst m) = IsReadable names es numbers v scope m
+IsReadable names es numbers v scope (Snd m) = IsReadable names es numbers v scope m
+IsReadable names es numbers v scope (Let x m n) =
+    (x.mark ≡ Plain) × IsReadable names es numbers v scope m × IsBinderText names scope (binder_name scope x.name)
+    × IsReadable names es numbers v (bound scope x.name) n
 
 -- The text, whose first byte stands at this place, is lexed as tokens; these are read by the grammar as a written term; and
 -- this is read, in explicit mode, as a core that is equal to the term at v up to names of binders. In the written term no
@@ -105,5 +106,5 @@ PrintedNamesAreNames =
 abbrev pub PrintedTermsReadBack : Type 0
 PrintedTermsReadBack =
     (levels : Shown) (v : Assignment) (names : Names) (es : List Entry) (scope : Scope) (place : Place) (t : Core)
-    → IsLeast levels v → scope.locals ≡ [] → IsReadable names es v scope t
+    → IsLeast levels v → scope.locals ≡ [] → IsReadable names es (λ k. k) v scope t
     → ReadsBack names es place (term_text levels scope 0 t) v t

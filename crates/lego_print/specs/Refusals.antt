@@ -3,7 +3,7 @@ use Rattle.std.specs.Prelude.{ℕ, ◌+◌, ◌/◌, ◌%◌, nat_le, nat_lt, na
 use Rattle.lego_base.specs.declared.place.Place.{Place}
 use Rattle.lego_print.specs.declared.heading.Heading.{Heading}
 use Rattle.lego_print.specs.declared.refusal.Details.{Details}
-use Rattle.lego_print.specs.declared.refusal.Details.TheVariants.{Nothing, Byte, Text, Count, Counts, Goal, GoalOf, Intro, Entries, Levels}
+use Rattle.lego_print.specs.declared.refusal.Details.TheVariants.{Nothing, Byte, Text, Count, Counts, Goal, GoalOf, Intro, Entries, Levels, Typing, Wanted, Sides}
 use Rattle.lego_print.specs.Headings.{number_of, name_of}
 
 -- a place: its line, a colon, its column
@@ -30,6 +30,9 @@ details_text (GoalOf n left) = codes "?" ++ decimal n ++ codes ", " ++ decimal l
 details_text (Intro n given found) = codes "?" ++ decimal n ++ codes " " ++ decimal given ++ codes ", " ++ decimal found
 details_text (Entries held) = codes "entries " ++ decimal held
 details_text (Levels held) = codes "levels " ++ decimal held
+details_text (Typing term got) = term.now ++ codes " : " ++ got.now
+details_text (Wanted term have want) = term.now ++ codes " : " ++ have.now ++ codes ", wanted " ++ want.now
+details_text (Sides left right) = left.now ++ codes ", " ++ right.now
 
 -- details behind a blank, where there are any
 abbrev pub behind_blank : List ℕ → List ℕ

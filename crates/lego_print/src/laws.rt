@@ -1,4 +1,5 @@
 //! Laws of the texts, each the contract of a function that does nothing.
+ghost use Rattle.lego_print.specs.Denoted.{PrintedDevelopmentsReadBack};
 ghost use Rattle.lego_print.specs.ReadBack.{PrintedNamesAreFree, PrintedNamesAreNames, PrintedTermsReadBack};
 
 /// A printed name is no name of an entry in scope and no printed name of an enclosing local
@@ -16,4 +17,10 @@ pub fn printed_names_are_names()
 /// as the term at the levels shown, up to the names of binders.
 pub fn printed_terms_read_back()
     ensures { PrintedTermsReadBack }
+{}
+
+/// The printed text of a development denotes its entries at the levels shown, and has the form of
+/// a development.
+pub fn printed_developments_read_back()
+    ensures { PrintedDevelopmentsReadBack }
 {}

@@ -1,23 +1,34 @@
 //! The texts of terms, entries and developments, and the numbers and names of refusals.
 #![tactic(auto)]
 
+mod development;
 mod entries;
+mod front;
 mod heading;
 mod item;
 mod laws;
+mod lines;
 mod locals;
 mod page;
 mod pieces;
+mod rank;
 mod refusal;
 mod shown;
 mod term;
 mod text;
+mod universes;
 mod used;
 
+pub use development::development_text;
 pub use entries::Entries;
 pub use heading::Heading;
 pub use item::Item;
-pub use laws::{printed_names_are_free, printed_names_are_names, printed_terms_read_back};
+pub use laws::{
+    printed_developments_read_back, printed_names_are_free, printed_names_are_names,
+    printed_terms_read_back,
+};
+pub use lines::{Tried, constraint_text, try_text};
 pub use refusal::{Details, cause_text, details_text, refusal_text};
 pub use shown::Shown;
 pub use text::{entry_command, entry_text, term_text};
+pub use universes::Universe;

@@ -1,12 +1,13 @@
 //! Pieces of texts. Each call adds one to a text.
 ghost use Rattle.std.specs.Prelude.{◌≡◌, ◌++◌, if◌then◌else◌, codes, decimal, [], OnOk};
 ghost use Rattle.lego_print.specs.Names.{name_text};
+ghost use Rattle.lego_print.specs.Refusals.{place_text};
 ghost use Rattle.lego_print.specs.Texts.{sign_text, argument_sign, level_text};
 ghost use Rattle.lego_term.specs.Levels.{node_value};
 
 use crate::shown::Shown;
 use itoa::Buffer;
-use lego_base::Names;
+use lego_base::{Names, Place};
 use lego_term::{Level, Mark};
 use std::alloc::AllocError;
 
@@ -27,6 +28,23 @@ pub(crate) fn push_number(text: &mut Vec<u8>, number: u64) -> Result<(), AllocEr
 {
     let mut digits = Buffer::new();
     text.extend_from_slice(digits.format(number).as_bytes())
+}
+
+/// Adds a place: its line, a colon, its column.
+pub(crate) fn push_place(text: &mut Vec<u8>, place: Place) -> Result<(), AllocError>
+    ensures { OnOk result (text.new.items ≡ text.old.items ++ place_text place) }
+{
+    push_number(text, u64::from(place.line))?;
+    text.extend_from_slice(b":")?;
+    push_number(text, u64::from(place.column))
+}
+
+/// Adds a piece and a number.
+pub(crate) fn push_counted(text: &mut Vec<u8>, piece: &[u8], number: u32) -> Result<(), AllocError>
+    ensures { OnOk result (text.new.items ≡ text.old.items ++ (piece.now ++ decimal number)) }
+{
+    text.extend_from_slice(piece)?;
+    push_number(text, u64::from(number))
 }
 
 /// Adds the bytes where the condition holds.
@@ -61,7 +79,7 @@ pub(crate) fn push_argument_sign(text: &mut Vec<u8>, mark: Mark) -> Result<(), A
 }
 
 /// The value of a node: of a variable, or 0 for no variable.
-fn node_value(values: &[u64], base: Option<u32>) -> u64
+pub(crate) fn node_value(values: &[u64], base: Option<u32>) -> u64
     ensures { result ≡ node_value values.now base }
 {
     match base {

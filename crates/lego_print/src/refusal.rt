@@ -1,9 +1,9 @@
 //! The texts of refusals.
 ghost use Rattle.std.specs.Prelude.{◌≡◌, ◌<◌, ◌++◌, codes, decimal, OnOk, IfOk};
-ghost use Rattle.lego_print.specs.Refusals.{place_text, hex_digit, byte_text, details_text, cause_text, refusal_text};
+ghost use Rattle.lego_print.specs.Refusals.{hex_digit, byte_text, details_text, cause_text, refusal_text};
 
 use crate::heading::Heading;
-use crate::pieces::push_number;
+use crate::pieces::{push_counted, push_number, push_place};
 use lego_base::Place;
 use std::alloc::{AllocError, Global};
 
@@ -13,7 +13,8 @@ pub enum Details<'a> {
     Nothing,
     /// Of BadByte.
     Byte(u8),
-    /// A token or a name: of Unexpected, UnknownName, NameInUse, Unsolved and NoModule.
+    /// One piece: of Unexpected, UnknownName, NameInUse, Unsolved and NoModule; of Budget
+    /// without a right side, Circular, NotSigma, Occurs and Solution.
     Text(&'a [u8]),
     /// Of LongCommand, LevelTooBig and GoalsOpen, and of NoGoal without a number.
     Count(u64),
@@ -29,15 +30,12 @@ pub enum Details<'a> {
     Entries(u32),
     /// How many level variables are held: of Full.
     Levels(u32),
-}
-
-/// Adds a place: its line, a colon, its column.
-fn push_place(text: &mut Vec<u8>, place: Place) -> Result<(), AllocError>
-    ensures { OnOk result (text.new.items ≡ text.old.items ++ place_text place) }
-{
-    push_number(text, u64::from(place.line))?;
-    text.extend_from_slice(b":")?;
-    push_number(text, u64::from(place.column))
+    /// A term and the type that it has: of NotAType, NotAFunction and NotAPair.
+    Typing(&'a [u8], &'a [u8]),
+    /// A term, the type that it has, and the one that is wanted: of Mismatch.
+    Wanted(&'a [u8], &'a [u8], &'a [u8]),
+    /// Two sides: of Budget with a right side, Clash, Scope and HigherOrder.
+    Sides(&'a [u8], &'a [u8]),
 }
 
 /// A hexadecimal digit, with capital letters.
@@ -68,12 +66,18 @@ fn push_counts(text: &mut Vec<u8>, first: u64, second: u64) -> Result<(), AllocE
     push_number(text, second)
 }
 
-/// Adds a piece and a number.
-fn push_counted(text: &mut Vec<u8>, piece: &[u8], number: u32) -> Result<(), AllocError>
-    ensures { OnOk result (text.new.items ≡ text.old.items ++ (piece.now ++ decimal number)) }
+/// Adds two pieces with one between them.
+fn push_pieces(
+    text: &mut Vec<u8>,
+    left: &[u8],
+    between: &[u8],
+    right: &[u8],
+) -> Result<(), AllocError>
+    ensures { OnOk result (text.new.items ≡ text.old.items ++ (left.now ++ between.now ++ right.now)) }
 {
-    text.extend_from_slice(piece)?;
-    push_number(text, u64::from(number))
+    text.extend_from_slice(left)?;
+    text.extend_from_slice(between)?;
+    text.extend_from_slice(right)
 }
 
 /// Adds details.
@@ -98,6 +102,12 @@ fn push_details(text: &mut Vec<u8>, details: Details<'_>) -> Result<(), AllocErr
         }
         Details::Entries(held) => push_counted(text, b"entries ", held),
         Details::Levels(held) => push_counted(text, b"levels ", held),
+        Details::Typing(term, got) => push_pieces(text, term, b" : ", got),
+        Details::Wanted(term, have, want) => {
+            push_pieces(text, term, b" : ", have)?;
+            push_pieces(text, b"", b", wanted ", want)
+        }
+        Details::Sides(left, right) => push_pieces(text, left, b", ", right),
     }
 }
 
@@ -111,7 +121,11 @@ pub fn details_text(alloc: Global, details: Details<'_>) -> Result<Vec<u8>, Allo
 }
 
 /// Adds the name of a refusal and its details.
-fn push_cause(text: &mut Vec<u8>, heading: Heading, details: &[u8]) -> Result<(), AllocError>
+pub(crate) fn push_cause(
+    text: &mut Vec<u8>,
+    heading: Heading,
+    details: &[u8],
+) -> Result<(), AllocError>
     ensures { OnOk result (text.new.items ≡ text.old.items ++ cause_text heading details.now) }
 {
     text.extend_from_slice(heading.name())?;

@@ -3,11 +3,12 @@ ghost use Rattle.std.specs.Prelude.{◌≡◌, ◌++◌, OnOk};
 ghost use Rattle.lego_print.specs.Texts.{term_text};
 ghost use Rattle.lego_print.specs.private.Counted.{AreCounted};
 ghost use Rattle.lego_print.specs.private.Numbered.{scope_of};
-ghost use Rattle.lego_print.specs.private.Parts.{infix_text, binder_text, product_text, sigma_text};
+ghost use Rattle.lego_print.specs.private.Parts.{infix_text, binder_text, product_text, lambda_text, local_definition_text, sigma_text, application_text, parts_text};
 
 use crate::entries::Entries;
 use crate::page::{Page, Printer};
-use crate::pieces::{name_text, push_argument_sign, push_if, push_level, sign};
+use crate::pieces::{push_argument_sign, push_if, push_level, sign};
+use crate::rank::is_below;
 use crate::used::uses_variable;
 use lego_term::{Binder, Mark, Node, Term};
 use std::alloc::AllocError;
@@ -40,70 +41,97 @@ pub(crate) fn push_term<E: Entries>(
     ensures text { OnOk result (page.new.text.items ≡ page.old.text.items ++ term_text printer.now.levels (scope_of printer.now.names.now (E.called printer.now.entries.now) (E.in_scope printer.now.entries.now) page.old.locals) wanted term.now) }
     ensures locals { OnOk result (page.new.locals ≡ page.old.locals) }
 {
+    let is_below = is_below(term, wanted);
+    push_if(&mut page.text, is_below, b"(")?;
+    push_form(printer, page, term)?;
+    push_if(&mut page.text, is_below, b")")
+}
+
+/// Adds a term without parentheses around it.
+#[cycle(terms)]
+fn push_form<E: Entries>(
+    printer: &Printer<'_, E>,
+    page: &mut Page,
+    term: &Term,
+) -> Result<(), AllocError>
+    requires { AreCounted printer.now.names.now (E.called printer.now.entries.now) (E.in_scope printer.now.entries.now) page.old.locals }
+    ensures text { OnOk result (page.new.text.items ≡ page.old.text.items ++ term_text printer.now.levels (scope_of printer.now.names.now (E.called printer.now.entries.now) (E.in_scope printer.now.entries.now) page.old.locals) 0 term.now) }
+    ensures locals { OnOk result (page.new.locals ≡ page.old.locals) }
+{
     match term.view() {
         Node::Var(index) => page.text.extend_from_slice(page.locals.text(index)),
-        Node::Const(number) => match printer.entries.name_of(number) {
-            Some(name) => page.text.extend_from_slice(name_text(printer.names, name)),
-            None => Ok(()),
-        },
+        Node::Const(number) => {
+            let name = printer.entries.name_of(number);
+            page.text.extend_from_slice(printer.named(name))
+        }
         Node::Prop => page.text.extend_from_slice(b"Prop"),
         Node::Univ(level) => push_level(&mut page.text, printer.levels, level),
-        Node::Pi(x, a, b) => {
-            push_if(&mut page.text, wanted > 0, b"(")?;
-            push_product(printer, page, x, a, b)?;
-            push_if(&mut page.text, wanted > 0, b")")
-        }
-        Node::Lam(x, a, m) => {
-            let brackets = Brackets {
-                open: b"[",
-                sign: sign(x.mark),
-                close: b"]",
-            };
-            push_if(&mut page.text, wanted > 0, b"(")?;
-            push_binder(printer, page, brackets, x.name, a, m)?;
-            push_if(&mut page.text, wanted > 0, b")")
-        }
-        Node::App(mark, m, n) => {
-            push_if(&mut page.text, wanted > 2, b"(")?;
-            push_term(printer, page, 2, m)?;
-            push_argument_sign(&mut page.text, mark)?;
-            push_term(printer, page, 3, n)?;
-            push_if(&mut page.text, wanted > 2, b")")
-        }
-        Node::Sigma(x, a, b) => {
-            let rank = if uses_variable(b, 0) { 0 } else { 1 };
-            push_if(&mut page.text, wanted > rank, b"(")?;
-            push_sigma(printer, page, x.name, a, b)?;
-            push_if(&mut page.text, wanted > rank, b")")
-        }
+        Node::Pi(x, a, b) => push_product(printer, page, x, a, b),
+        Node::Lam(x, a, m) => push_lambda(printer, page, x, a, m),
+        Node::App(mark, m, n) => push_application(printer, page, mark, m, n),
+        Node::Sigma(x, a, b) => push_sigma(printer, page, x.name, a, b),
         Node::Pair(x, a, b, m, n) => {
-            page.text.extend_from_slice(b"(")?;
-            push_term(printer, page, 0, m)?;
-            page.text.extend_from_slice(b",")?;
-            push_term(printer, page, 0, n)?;
-            page.text.extend_from_slice(b":")?;
+            push_parts(printer, page, m, n)?;
             push_sigma(printer, page, x.name, a, b)?;
             page.text.extend_from_slice(b")")
         }
-        Node::Fst(m) => {
-            push_term(printer, page, 3, m)?;
-            page.text.extend_from_slice(b".1")
-        }
-        Node::Snd(m) => {
-            push_term(printer, page, 3, m)?;
-            page.text.extend_from_slice(b".2")
-        }
-        Node::Local(x, m, n) => {
-            let brackets = Brackets {
-                open: b"[",
-                sign: b"=",
-                close: b"]",
-            };
-            push_if(&mut page.text, wanted > 0, b"(")?;
-            push_binder(printer, page, brackets, x.name, m, n)?;
-            push_if(&mut page.text, wanted > 0, b")")
-        }
+        Node::Fst(m) => push_projection(printer, page, m, b".1"),
+        Node::Snd(m) => push_projection(printer, page, m, b".2"),
+        Node::Local(x, m, n) => push_local(printer, page, x.name, m, n),
     }
+}
+
+/// Adds a function and its argument.
+#[cycle(terms)]
+fn push_application<E: Entries>(
+    printer: &Printer<'_, E>,
+    page: &mut Page,
+    mark: Mark,
+    m: &Term,
+    n: &Term,
+) -> Result<(), AllocError>
+    requires { AreCounted printer.now.names.now (E.called printer.now.entries.now) (E.in_scope printer.now.entries.now) page.old.locals }
+    ensures text { OnOk result (page.new.text.items ≡ page.old.text.items ++ application_text printer.now.levels (scope_of printer.now.names.now (E.called printer.now.entries.now) (E.in_scope printer.now.entries.now) page.old.locals) mark m.now n.now) }
+    ensures locals { OnOk result (page.new.locals ≡ page.old.locals) }
+{
+    push_term(printer, page, 2, m)?;
+    push_argument_sign(&mut page.text, mark)?;
+    push_term(printer, page, 3, n)
+}
+
+/// Adds what of a pair stands before its type.
+#[cycle(terms)]
+fn push_parts<E: Entries>(
+    printer: &Printer<'_, E>,
+    page: &mut Page,
+    m: &Term,
+    n: &Term,
+) -> Result<(), AllocError>
+    requires { AreCounted printer.now.names.now (E.called printer.now.entries.now) (E.in_scope printer.now.entries.now) page.old.locals }
+    ensures text { OnOk result (page.new.text.items ≡ page.old.text.items ++ parts_text printer.now.levels (scope_of printer.now.names.now (E.called printer.now.entries.now) (E.in_scope printer.now.entries.now) page.old.locals) m.now n.now) }
+    ensures locals { OnOk result (page.new.locals ≡ page.old.locals) }
+{
+    page.text.extend_from_slice(b"(")?;
+    push_term(printer, page, 0, m)?;
+    page.text.extend_from_slice(b",")?;
+    push_term(printer, page, 0, n)?;
+    page.text.extend_from_slice(b":")
+}
+
+/// Adds a term and the projection behind it.
+#[cycle(terms)]
+fn push_projection<E: Entries>(
+    printer: &Printer<'_, E>,
+    page: &mut Page,
+    m: &Term,
+    part: &[u8],
+) -> Result<(), AllocError>
+    requires { AreCounted printer.now.names.now (E.called printer.now.entries.now) (E.in_scope printer.now.entries.now) page.old.locals }
+    ensures text { OnOk result (page.new.text.items ≡ page.old.text.items ++ (term_text printer.now.levels (scope_of printer.now.names.now (E.called printer.now.entries.now) (E.in_scope printer.now.entries.now) page.old.locals) 3 m.now ++ part.now)) }
+    ensures locals { OnOk result (page.new.locals ≡ page.old.locals) }
+{
+    push_term(printer, page, 3, m)?;
+    page.text.extend_from_slice(part)
 }
 
 /// Adds a product: an arrow where it is plain and its variable is not used.
@@ -138,6 +166,48 @@ fn push_product<E: Entries>(
         };
         push_binder(printer, page, brackets, x.name, a, b)
     }
+}
+
+/// Adds a function.
+#[cycle(terms)]
+fn push_lambda<E: Entries>(
+    printer: &Printer<'_, E>,
+    page: &mut Page,
+    x: Binder,
+    a: &Term,
+    m: &Term,
+) -> Result<(), AllocError>
+    requires { AreCounted printer.now.names.now (E.called printer.now.entries.now) (E.in_scope printer.now.entries.now) page.old.locals }
+    ensures text { OnOk result (page.new.text.items ≡ page.old.text.items ++ lambda_text printer.now.levels (scope_of printer.now.names.now (E.called printer.now.entries.now) (E.in_scope printer.now.entries.now) page.old.locals) x a.now m.now) }
+    ensures locals { OnOk result (page.new.locals ≡ page.old.locals) }
+{
+    let brackets = Brackets {
+        open: b"[",
+        sign: sign(x.mark),
+        close: b"]",
+    };
+    push_binder(printer, page, brackets, x.name, a, m)
+}
+
+/// Adds a local definition.
+#[cycle(terms)]
+fn push_local<E: Entries>(
+    printer: &Printer<'_, E>,
+    page: &mut Page,
+    name: Option<u32>,
+    m: &Term,
+    n: &Term,
+) -> Result<(), AllocError>
+    requires { AreCounted printer.now.names.now (E.called printer.now.entries.now) (E.in_scope printer.now.entries.now) page.old.locals }
+    ensures text { OnOk result (page.new.text.items ≡ page.old.text.items ++ local_definition_text printer.now.levels (scope_of printer.now.names.now (E.called printer.now.entries.now) (E.in_scope printer.now.entries.now) page.old.locals) name m.now n.now) }
+    ensures locals { OnOk result (page.new.locals ≡ page.old.locals) }
+{
+    let brackets = Brackets {
+        open: b"[",
+        sign: b"=",
+        close: b"]",
+    };
+    push_binder(printer, page, brackets, name, m, n)
 }
 
 /// Adds a Sigma type: with `#` where its variable is not used.

@@ -1,5 +1,5 @@
 //! The texts of a term among binders, and of an entry.
-ghost use Rattle.std.specs.Prelude.{◌≡◌, ◌++◌, ℕ, IfOk, OnOk};
+ghost use Rattle.std.specs.Prelude.{◌≡◌, [], ◌++◌, IfOk, OnOk};
 ghost use Rattle.lego_print.specs.Texts.{term_text, seen_text, outer_scope};
 ghost use Rattle.lego_print.specs.Entries.{item_entry, entry_text, entry_command, said, declared};
 ghost use Rattle.lego_print.specs.private.Counted.{AreCounted};
@@ -56,7 +56,7 @@ pub fn entry_text<E: Entries>(
     item: Item<'_>,
     levels: Shown<'_>,
 ) -> Result<Vec<u8>, AllocError>
-    ensures { IfOk result (λ text. (number : ℕ) → text.items ≡ entry_text levels.entry (outer_scope names.now (E.called entries.now) (E.in_scope entries.now)) (item_entry number item.entry)) }
+    ensures { IfOk result (λ text. text.items ≡ entry_text levels.entry (outer_scope names.now (E.called entries.now) (E.in_scope entries.now)) (item_entry item.entry)) }
 {
     let printer = Printer {
         alloc,
@@ -105,7 +105,30 @@ pub fn entry_command<E: Entries>(
     item: Item<'_>,
     levels: Shown<'_>,
 ) -> Result<Vec<u8>, AllocError>
-    ensures { IfOk result (λ text. (number : ℕ) → text.items ≡ entry_command levels.entry (outer_scope names.now (E.called entries.now) (E.in_scope entries.now)) (item_entry number item.entry)) }
+    ensures { IfOk result (λ text. text.items ≡ entry_command levels.entry (outer_scope names.now (E.called entries.now) (E.in_scope entries.now)) (item_entry item.entry)) }
+{
+    let mut page = Page::new(alloc);
+    push_command(alloc, names, entries, item, levels, &mut page)?;
+    let Page {
+        text,
+        locals: _,
+        latest: _,
+    } = page;
+    Ok(text)
+}
+
+/// Adds the command that declares an entry, under no local variable.
+pub(crate) fn push_command<E: Entries>(
+    alloc: Global,
+    names: &Names,
+    entries: &E,
+    item: Item<'_>,
+    levels: Shown<'_>,
+    page: &mut Page,
+) -> Result<(), AllocError>
+    requires { page.old.locals ≡ [] }
+    ensures text { OnOk result (page.new.text.items ≡ page.old.text.items ++ entry_command levels.entry (outer_scope names.now (E.called entries.now) (E.in_scope entries.now)) (item_entry item.entry)) }
+    ensures locals { OnOk result (page.new.locals ≡ []) }
 {
     let printer = Printer {
         alloc,
@@ -113,17 +136,10 @@ pub fn entry_command<E: Entries>(
         entries,
         levels,
     };
-    let mut page = Page::new(alloc);
     page.text.extend_from_slice(b"[")?;
     page.text.extend_from_slice(name_text(names, item.name))?;
-    push_declared(&printer, &mut page, item)?;
-    page.text.extend_from_slice(b"];\n")?;
-    let Page {
-        text,
-        locals: _,
-        latest: _,
-    } = page;
-    Ok(text)
+    push_declared(&printer, page, item)?;
+    page.text.extend_from_slice(b"];\n")
 }
 
 /// Adds what the command of an entry says behind its name.
@@ -133,7 +149,8 @@ fn push_declared<E: Entries>(
     item: Item<'_>,
 ) -> Result<(), AllocError>
     requires { AreCounted printer.now.names.now (E.called printer.now.entries.now) (E.in_scope printer.now.entries.now) page.old.locals }
-    ensures { OnOk result (page.new.text.items ≡ page.old.text.items ++ declared printer.now.levels (scope_of printer.now.names.now (E.called printer.now.entries.now) (E.in_scope printer.now.entries.now) page.old.locals) (option_copied item.entry.body) item.entry.mark item.entry.ty.now) }
+    ensures text { OnOk result (page.new.text.items ≡ page.old.text.items ++ declared printer.now.levels (scope_of printer.now.names.now (E.called printer.now.entries.now) (E.in_scope printer.now.entries.now) page.old.locals) (option_copied item.entry.body) item.entry.mark item.entry.ty.now) }
+    ensures locals { OnOk result (page.new.locals ≡ page.old.locals) }
 {
     match (item.body, item.mark) {
         (Some(body), _) => {
