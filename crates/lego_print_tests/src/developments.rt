@@ -54,18 +54,22 @@ fn assumption(number: u32, name: u32, mark: Mark, ty: &Term) -> Item<'_> {
     }
 }
 
+fn definition<'a>(name: u32, ty: &'a Term, body: &'a Term) -> Item<'a> {
+    Item {
+        number: 0,
+        name,
+        mark: Mark::Plain,
+        ty,
+        body: Some(body),
+    }
+}
+
 #[test]
 fn definitions_are_printed(rt: HostRuntime) -> Result<(), Fail> {
     let alloc = rt.alloc();
     let names = names(alloc)?;
     let (body, ty) = (identity(alloc)?, identity_type(alloc)?);
-    let item = Item {
-        number: 0,
-        name: 6,
-        mark: Mark::Plain,
-        ty: &ty,
-        body: Some(&body),
-    };
+    let item = definition(6, &ty, &body);
     let made = entry_text(alloc, &names, &OTHERS, item, Shown::Least(&[2]))?;
     assert!(rt;
         made.as_slice() == b"c1 = [A|Type(2)][a:A]a : {A|Type(2)}A->A".as_slice(),
