@@ -1,2 +1,0 @@
-pub mod FixtureLemmas
-pub mod FrontLemmas

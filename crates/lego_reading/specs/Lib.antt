@@ -1,4 +1,0 @@
-pub mod Universes
-pub mod Failures
-pub mod Calls
-pub mod private
