@@ -6,6 +6,7 @@
 use lego_base::{Failed, MemSink, MemSource, Sink, StdSink, send};
 use lego_session::{Status, run};
 use std::alloc::{AllocError, Global};
+use std::io::Read;
 
 /// The most bytes of one read of a script.
 const PIECE: usize = 4096;
