@@ -98,20 +98,20 @@ fn send_run<K: Sink>(alloc: Global, case: &Case<'_>, out: &mut K) -> Result<(), 
     send(out, case.name.as_bytes())?;
     send(out, b"\n")?;
     send(out, written.taken())?;
-    send(out, status_line(status))?;
+    send(out, status_line(status).as_bytes())?;
     Ok(())
 }
 
 /// The line of a status.
-fn status_line(status: Status) -> &'static [u8] {
+fn status_line(status: Status) -> &'static str {
     match status {
-        Status::Accepted => b"status 0\n",
-        Status::Refused => b"status 1\n",
-        Status::Usage => b"status 2\n",
-        Status::ReadFault => b"status 3\n",
-        Status::WriteFault => b"status 4\n",
-        Status::Memory => b"status 5\n",
-        Status::OpenProof => b"status 6\n",
-        Status::TooLong => b"status 7\n",
+        Status::Accepted => "status 0\n",
+        Status::Refused => "status 1\n",
+        Status::Usage => "status 2\n",
+        Status::ReadFault => "status 3\n",
+        Status::WriteFault => "status 4\n",
+        Status::Memory => "status 5\n",
+        Status::OpenProof => "status 6\n",
+        Status::TooLong => "status 7\n",
     }
 }
