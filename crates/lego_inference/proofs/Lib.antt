@@ -1,4 +1,5 @@
-pub mod LeafLemmas
+pub mod PartLemmas
+pub mod RuleTypeParts
 pub mod ReadyLemmas
 pub mod PlaceLemmas
 pub mod ShapeLemmas
