@@ -5,11 +5,13 @@ use Rattle.std.specs.List.{AllByRecursion}
 use Rattle.lego_term.specs.declared.binder.Binder.{Binder}
 use Rattle.lego_term.specs.declared.level.Level.{Level}
 use Rattle.lego_term.specs.Levels.{fixed_level, variable_level}
-use Rattle.lego_term.specs.Trees.{Core, Pi, Lam, App, Fst, Let}
+use Rattle.lego_term.specs.declared.binder.Mark.TheVariants.{Plain}
+use Rattle.lego_term.specs.Trees.{Core, Pi, Lam, App, Fst, Let, instantiate}
 use Rattle.lego_term.specs.Sequences.{HeadForm}
 use Rattle.lego_laws.specs.Entries.{Entry, entry_of, core_bodies}
 use Rattle.lego_laws.specs.Principal.{core_types}
 use Rattle.lego_laws.specs.RuleTypes.{RuleType, nodes}
+use Rattle.lego_laws.proofs.lemmas.principal.Nodes.{nodes_are_counted}
 use Rattle.lego_laws.proofs.lemmas.reduction.HeadSteps.{mapped_from}
 use Rattle.lego_inference.specs.Binders.{BinderKind, EachPart}
 use Rattle.lego_inference.specs.Entries.{HoldsInEntries}
@@ -45,6 +47,12 @@ type_at Q [] i a h is = cc
 type_at Q (t ∷ g) zero a h is = let same : t ≡ a = cc is in subst Q same h.0
 type_at Q (t ∷ g) (suc i) a h is = type_at Q g i a h.1 is
 
+count_lam : (x : Binder) (a m : Core) → nodes (Lam x a m) ≡ nodes a + nodes m
+count_lam x a m = (nodes_are_counted x Plain 0 (variable_level 0) a a m m).5
+
+count_let : (x : Binder) (m b : Core) → nodes (Let x m b) ≡ nodes m + nodes (instantiate b m)
+count_let x m b = (nodes_are_counted x Plain 0 (variable_level 0) m m m b).11
+
 -- the level variables of the nodes are those below a number
 module _ (P : BinderKind → Binder → Type 0) (C : ℕ → Type 0) (L : Level → Type 0) (es : List Entry) (in_entries : HoldsInEntries (EachPart P C L) es) (of_prop : L (fixed_level 0)) (w : ℕ → ℕ) (top : ℕ) (fresh : (i : ℕ) → i < top → L (variable_level (w i))) where
   head_parts : {t h : Core} → HeadForm (core_bodies es) t h → EachPart P C L t → EachPart P C L h
@@ -58,7 +66,7 @@ module _ (P : BinderKind → Binder → Type 0) (C : ℕ → Type 0) (L : Level 
   rule_type_parts le types h (RuleType.pi_prop r p) = tt
   rule_type_parts {n = n} le types h (RuleType.pi_type r p o) = fresh n (omega arith)
   rule_type_parts {n = n} le types h RuleType.sigma = fresh n (omega arith)
-  rule_type_parts le types h (RuleType.lambda r) = (h.0, h.1, rule_type_parts (omega arith) (h.1, types) h.2 r)
+  rule_type_parts le types h (RuleType.lambda {x = x} {a = a} {m = m} r) = (h.0, h.1, rule_type_parts (omega (arith, count_lam x a m)) (h.1, types) h.2 r)
   rule_type_parts le types h (RuleType.application {b = b} {m = m} r p) =
       let f = head_parts p (rule_type_parts (omega arith) types h.0 r) in
       parts-instantiate P C L b m f.2 h.1
@@ -67,5 +75,5 @@ module _ (P : BinderKind → Binder → Type 0) (C : ℕ → Type 0) (L : Level 
   rule_type_parts le types h (RuleType.second {b = b} {m = m} r p) =
       let f = head_parts p (rule_type_parts (omega arith) types h r) in
       parts-instantiate P C L b (Fst m) f.2 h
-  rule_type_parts le types h (RuleType.local {m = m} {b = b} r) =
-      rule_type_parts (omega arith) types (parts-instantiate P C L b m h.2 h.1) r
+  rule_type_parts le types h (RuleType.local {x = x} {m = m} {b = b} r) =
+      rule_type_parts (omega (arith, count_let x m b)) types (parts-instantiate P C L b m h.2 h.1) r
