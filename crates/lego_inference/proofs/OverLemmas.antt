@@ -73,7 +73,7 @@ rule_type_over es s m a le lg in_entries in_types ready rule =
     let within =
         rule_type_parts (λ kind x. Unit {0}) (λ k. IsSome (entry_of es k)) (λ l. (l.plus ≤ 1000000) × (level_bound l ≤ top)) es (entries_within es top es in_entries (omega arith)) (omega arith, omega arith) (λ i. i) top (λ i lt. (omega arith, omega arith)) (omega arith) (types_within es top s.types in_types (omega arith)) (named_within es top m ready.over.names (omega arith)) rule in
     record {
-      names = parts_follow (λ kind x h. h) (λ k h. h) (λ l h. h.0) a within;
+      names = parts_follow {P = λ kind x. Unit {0}} (λ kind x h. h) (λ k h. h) (λ l h. h.0) a within;
       variables = loose_of ready rule;
       levels_within = levels_within es top a within;
     }
