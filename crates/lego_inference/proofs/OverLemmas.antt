@@ -1,5 +1,5 @@
 -- A rule type is over the entries, the locals and the level variables of the context and of the term's nodes.
-use Rattle.std.proofs.Common.{◌≡◌, ℕ, ◌+◌, ◌≤◌, max, Option, Some, None, IfSome, IsSome, List, [], ◌∷◌, length, arith}
+use Rattle.std.proofs.Common.{ℕ, ◌+◌, ◌≤◌, Option, Some, None, IfSome, IsSome, List, [], ◌∷◌, arith}
 use Rattle.std.specs.List.{AllByRecursion}
 use Rattle.lego_term.specs.Trees.{Core, Var, Const, Prop, Univ, Pi, Lam, App, Sigma, Pair, Fst, Snd, Let}
 use Rattle.lego_laws.specs.Entries.{Entry, entry_of}
@@ -71,7 +71,7 @@ rule_type_over es s m a le lg in_entries in_types ready rule =
     let top = s.first + nodes m in
     let lm = ready.over.levels_within in
     let within =
-        rule_type_parts (λ kind x. Unit {0}) (λ k. IsSome (entry_of es k)) (λ l. (l.plus ≤ 1000000) × (level_bound l ≤ top)) es (entries_within es top es in_entries (omega arith)) (omega arith, omega arith) (λ i. i) top (λ i lt. (omega arith, omega arith)) (omega arith) (types_within es top s.types in_types (omega arith)) (named_within es top m ready.over.names (omega arith)) rule in
+    rule_type_parts (λ kind x. Unit {0}) (λ k. IsSome (entry_of es k)) (λ l. (l.plus ≤ 1000000) × (level_bound l ≤ top)) es (entries_within es top es in_entries (omega arith)) (omega arith, omega arith) (λ i. i) top (λ i lt. (omega arith, omega arith)) (omega arith) (types_within es top s.types in_types (omega arith)) (named_within es top m ready.over.names (omega arith)) rule in
     record {
       names = parts_follow {P = λ kind x. Unit {0}} (λ kind x h. h) (λ k h. h) (λ l h. h.0) a within;
       variables = loose_of ready rule;

@@ -6,7 +6,7 @@ use Rattle.lego_term.specs.declared.binder.Binder.{Binder}
 use Rattle.lego_term.specs.declared.level.Level.{Level}
 use Rattle.lego_term.specs.Levels.{fixed_level, variable_level}
 use Rattle.lego_term.specs.declared.binder.Mark.TheVariants.{Plain}
-use Rattle.lego_term.specs.Trees.{Core, Pi, Lam, App, Fst, Let, instantiate}
+use Rattle.lego_term.specs.Trees.{Core, Lam, Fst, Let, instantiate}
 use Rattle.lego_term.specs.Sequences.{HeadForm}
 use Rattle.lego_laws.specs.Entries.{Entry, entry_of, core_bodies}
 use Rattle.lego_laws.specs.Principal.{core_types}
