@@ -1,2 +1,2 @@
-mod ExtendsLemmas
+mod FrontLemmas
 mod HistoryLemmas
