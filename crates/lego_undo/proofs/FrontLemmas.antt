@@ -1,5 +1,5 @@
 -- When a state is so much of another one as its extent says.
-use Rattle.std.proofs.Common.{◌≡◌, ℕ, zero, suc, ◌≤◌, ◌<◌, ◌⊎◌, inr, List, [], ◌∷◌, length, take, slice_get, Some, All, sym, ap, subst, arith}
+use Rattle.std.proofs.Common.{◌≡◌, ◌≤◌, ◌<◌, inr, List, length, take, All, refl, sym, ap, subst, arith}
 use Rattle.std.proofs.lemmas.List.{length-take, length-take-le}
 use Rattle.lego_laws.specs.Valid.{AlwaysValid}
 use Rattle.lego_laws.specs.Principal.{entries_bound}
@@ -13,19 +13,8 @@ use Rattle.lego_undo.specs.Changes.{IsFrontOf}
 use Rattle.lego_undo.specs.declared.state.State.{State}
 use Rattle.lego_undo.specs.declared.change.Extent.{Extent}
 
-module _ {X : Type 0} where
-  -- one more item is the same
-  pub take-more : (xs ys : List X) (k : ℕ) (x y : X) → take k xs ≡ take k ys → slice_get xs k ≡ Some x → slice_get ys k ≡ Some y → x ≡ y → take (suc k) xs ≡ take (suc k) ys
-  take-more [] ys k x y h a b same = cc
-  take-more (x' ∷ xs) [] k x y h a b same = cc
-  take-more (x' ∷ xs) (y' ∷ ys) zero x y h a b same = cc
-  take-more (x' ∷ xs) (y' ∷ ys) (suc k) x y h a b same =
-      let first : x' ≡ y' = cc in
-      let rest : take k xs ≡ take k ys = cc in
-      cc (first, take-more xs ys k x y rest a b same)
-
-  pub no_longer : (xs ys : List X) → take (length xs) ys ≡ xs → length xs ≤ length ys
-  no_longer xs ys h = omega (arith, length-take (length xs) ys, ap length h)
+pub no_longer : {X : Type 0} (xs ys : List X) → take (length xs) ys ≡ xs → length xs ≤ length ys
+no_longer xs ys h = omega (arith, length-take (length xs) ys, ap length h)
 
 -- the front of an extent has it
 pub extent_of_front : (extent : Extent) (new : State) → HasExtent extent new → extent_of (front extent new) ≡ extent

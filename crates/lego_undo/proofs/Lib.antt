@@ -1,2 +1,2 @@
-mod FrontLemmas
+pub mod FrontLemmas
 mod HistoryLemmas
