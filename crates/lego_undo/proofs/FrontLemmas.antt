@@ -6,8 +6,7 @@ use Rattle.lego_laws.specs.Principal.{entries_bound}
 use Rattle.lego_inference.specs.declared.entry.Entry.{Entry as Item}
 use Rattle.lego_inference.specs.declared.entry.Universe.{Universe}
 use Rattle.lego_inference.specs.Entries.{laws_entries}
-use Rattle.lego_context.specs.Contexts.{Contents, IsContext}
-use Rattle.lego_context.specs.Cutting.{CanBeCut}
+use Rattle.lego_context.specs.Contexts.{IsContext}
 use Rattle.lego_undo.specs.Histories.{HasExtent, extent_of, front}
 use Rattle.lego_undo.specs.Changes.{IsFrontOf}
 use Rattle.lego_undo.specs.declared.state.State.{State}

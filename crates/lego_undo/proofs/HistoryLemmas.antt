@@ -4,7 +4,7 @@ use Rattle.std.proofs.lemmas.List.{length-append, length-take-le}
 use Rattle.lego_undo.proofs.FrontLemmas.{no_longer, extent_of_front, front_of_extent}
 use Rattle.std.proofs.Math.Seq.{take-append_seam}
 use Rattle.std.specs.Prelude.{Result, Ok, Err, OnOk}
-use Rattle.lego_context.specs.Contexts.{Contents, IsContext}
+use Rattle.lego_context.specs.Contexts.{IsContext}
 use Rattle.lego_context.specs.Forgetting.{front_of}
 use Rattle.lego_undo.specs.Histories.{HasExtent, extent_of, before, front, origin, old_states, Fits, GoesWith}
 use Rattle.lego_undo.specs.Changes.{IsFrontOf, IsChange, cut, whole, Notes, Undoes}

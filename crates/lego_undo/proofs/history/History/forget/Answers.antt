@@ -1,4 +1,4 @@
-use Rattle.std.proofs.Common.{◌≡◌, ◌++◌, ◌∷◌, [], List, sym, ap, ◌∙◌, subst, rules}
+use Rattle.std.proofs.Common.{◌≡◌, ◌++◌, ◌∷◌, [], sym, ◌∙◌, subst, rules}
 use Rattle.lego_context.specs.Forgetting.{front_of}
 use Rattle.lego_undo.specs.Changes.{Notes}
 use Rattle.lego_undo.specs.declared.state.State.{State}

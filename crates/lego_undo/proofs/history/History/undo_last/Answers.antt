@@ -1,4 +1,4 @@
-use Rattle.std.proofs.Common.{◌≡◌, ◌∷◌, [], ◌++◌, List, sym, ap, ◌∙◌}
+use Rattle.std.proofs.Common.{◌≡◌, ◌∷◌, [], ◌++◌, sym, ap, ◌∙◌}
 use Rattle.lego_undo.specs.Histories.{before, front}
 use Rattle.lego_undo.specs.declared.change.Change.{Change}
 use Rattle.lego_undo.specs.declared.change.Change.TheVariants.{Cut}
