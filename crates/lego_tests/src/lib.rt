@@ -4,8 +4,6 @@
 #[cfg(test)]
 mod compare;
 #[cfg(test)]
-mod kernel;
-#[cfg(test)]
 mod level;
 #[cfg(test)]
 mod reduce;
