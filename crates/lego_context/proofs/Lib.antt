@@ -1,7 +1,12 @@
 pub mod EntryLemmas
 pub mod NameLemmas
 pub mod NumberLemmas
+pub mod HoleLemmas
+pub mod UniverseLemmas
 pub mod ContextLemmas
+pub mod LeafLemmas
+pub mod FrontLemmas
+pub mod HeldLemmas
 pub mod PureLemmas
 pub mod FitLemmas
 pub mod TypingLemmas

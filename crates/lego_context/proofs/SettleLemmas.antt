@@ -14,6 +14,7 @@ use Rattle.lego_context.specs.Contexts.{Contents, IsContext}
 use Rattle.lego_context.specs.Causes.{together}
 use Rattle.lego_context.specs.Changes.{with_universe, with_levels}
 use Rattle.lego_context.specs.Settling.{CanBeSettled, IsSettled}
+use Rattle.lego_context.proofs.UniverseLemmas.{universes-push}
 
 variable_below : (n : ℕ) (o : Option ℕ) → node_bound o ≤ n → IsVariableBelow n o
 variable_below n None h = tt
@@ -56,11 +57,14 @@ universe_is_context c place h room = record {
   names = h.names;
   numbers = h.numbers;
   kinds = h.kinds;
+  holes = h.holes;
+  small = h.small;
   few_entries = h.few_entries;
   few_levels = omega arith;
   entries_held = let held = h.entries_held in omega arith;
   universes_held = All-push (λ (u : Universe). u.variable < c.levels + 1) c.universes (record { variable = c.levels; place = place })
       (All-weaker (λ (u : Universe). u.variable < c.levels) (λ (u : Universe). u.variable < c.levels + 1) (λ u below. omega arith) c.universes h.universes_held) (omega arith);
+  universes_differ = universes-push c.universes (record { variable = c.levels; place = place }) h.universes_held h.universes_differ;
 }
 
 -- more level variables
@@ -72,8 +76,11 @@ levels_are_context c upto h few = record {
   names = h.names;
   numbers = h.numbers;
   kinds = h.kinds;
+  holes = h.holes;
+  small = h.small;
   few_entries = h.few_entries;
   few_levels = let held = h.few_levels in omega arith;
   entries_held = let held = h.entries_held in omega arith;
   universes_held = All-weaker (λ (u : Universe). u.variable < c.levels) (λ (u : Universe). u.variable < max c.levels upto) (λ u below. omega arith) c.universes h.universes_held;
+  universes_differ = h.universes_differ;
 }
