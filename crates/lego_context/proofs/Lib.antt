@@ -15,5 +15,6 @@ pub mod StoreLemmas
 pub mod NextLemmas
 pub mod CutLemmas
 pub mod SettleLemmas
+pub mod TypedLemmas
 pub mod VariableLemmas
 pub mod ListLemmas
