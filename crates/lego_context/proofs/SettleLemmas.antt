@@ -1,5 +1,5 @@
 -- Least levels of a context with further constraints, and new level variables.
-use Rattle.std.proofs.Common.{◌≡◌, ℕ, ◌+◌, ◌<◌, ◌≤◌, max, List, [], ◌∷◌, ◌++◌, Option, Some, None, length, sym, ◌∙◌, subst, arith}
+use Rattle.std.proofs.Common.{◌≡◌, ℕ, ◌+◌, ◌<◌, ◌≤◌, max, List, [], ◌∷◌, ◌++◌, Option, Some, None, Result, Ok, Err, IfOk, length, sym, ◌∙◌, subst, arith}
 use Rattle.std.proofs.lemmas.List.Elements.{All-push, All-weaker}
 use Rattle.lego_base.specs.declared.place.Place.{Place}
 use Rattle.lego_laws.specs.Principal.{entries_bound}
@@ -58,6 +58,13 @@ pub least_settled : (c : Contents) (graph : List Constraint) (values : List ℕ)
     → IsSettled c [] c.levels values
 least_settled c graph values h is least count =
     settled c [] c.levels graph values (is ∙ sym (append_none (constraints_of c.entries))) (subst CanBeSatisfiedWithin (sym is) h.satisfiable) least count
+
+-- the same of what a call answers
+pub least_answers : {X E : Type 0} (items : X → List ℕ) (here c : Contents) (graph : List Constraint) → IsContext here → here ≡ c → graph ≡ constraints_of here.entries → (r : Result X E)
+    → IfOk r (λ x. IsLeast graph (items x)) → IfOk r (λ x. length (items x) ≡ here.levels) → IfOk r (λ x. IsSettled c [] c.levels (items x))
+least_answers items here c graph h same is (Ok x) least count =
+    subst (λ (z : Contents). IsSettled z [] z.levels (items x)) same (least_settled here graph (items x) h is least count)
+least_answers items here c graph h same is (Err e) least count = tt
 
 -- one universe more
 pub universe_is_context : (c : Contents) (place : Place) → IsContext c → c.levels < 1048576 → IsContext (with_universe c place)
