@@ -19,10 +19,10 @@ use Rattle.lego_undo.specs.Histories.{HasExtent, extent_of, front}
 use Rattle.lego_undo.proofs.FrontLemmas.{front_of_extent}
 
 -- behind one universe more, the state before has its extent, and is the front of it
-pub universe_behind : {old new : Contents} {place : Place} {level : Level} {extent : Extent} → extent ≡ extent_of (record { context = old }) → IsContext old
+pub universe_behind : {old new : Contents} (place : Place) {level : Level} {extent : Extent} → extent ≡ extent_of (record { context = old }) → IsContext old
     → (level ≡ variable_level old.levels) × (new ≡ with_universe old place)
     → HasExtent extent (record { context = new }) × (front extent (record { context = new }) ≡ record { context = old })
-universe_behind {old} {new} {place} e c made =
+universe_behind {old} {new} place e c made =
     let u : Universe = record { variable = old.levels; place = place } in
     let entries : take (length old.entries) old.entries ≡ old.entries = take-length old.entries in
     let universes : take (length old.universes) (old.universes ++ u ∷ []) ≡ old.universes = take-append_seam old.universes (u ∷ []) in
@@ -33,9 +33,9 @@ universe_behind {old} {new} {place} e c made =
     rw (e, made.1) (has, is)
 
 -- the universe of the next level variable is over the context that holds it
-pub universe_is_over : {old new : Contents} {place : Place} {level : Level} {ty : Core} → (level ≡ variable_level old.levels) × (new ≡ with_universe old place)
+pub universe_is_over : (old : Contents) {new : Contents} (place : Place) {level : Level} {ty : Core} → (level ≡ variable_level old.levels) × (new ≡ with_universe old place)
     → ty ≡ Univ level → HasNoHole new.entries → CanTakeType new ty
-universe_is_over {old} {new} {place} {level} {ty} made is none =
+universe_is_over old {new} place {level} {ty} made is none =
     let next : CanTakeType (with_universe old place) (Univ (variable_level old.levels)) = record {
       no_hole = subst (λ (c : Contents). HasNoHole c.entries) made.1 none;
       term = record { names = omega arith; variables = omega arith; levels_within = omega arith };

@@ -1,6 +1,7 @@
 //! Histories: the changes that steps leave, and the states that undoing brings back, with their
 //! universes and level variables.
-ghost use Rattle.std.specs.Prelude.{OnOk, OnTrue};
+ghost use Rattle.std.specs.Bool.{OnTrue};
+ghost use Rattle.std.specs.Prelude.{OnOk};
 ghost use Rattle.lego_context.specs.Entries.{HasNoHole, IsNoHole};
 ghost use Rattle.lego_undo.specs.Histories.{GoesWith};
 

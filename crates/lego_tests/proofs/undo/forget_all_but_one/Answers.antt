@@ -1,4 +1,4 @@
-use Rattle.std.specs.Prelude.{OnTrue}
+use Rattle.std.specs.Bool.{OnTrue}
 use Rattle.std.proofs.Common.{subst, arith}
 use Rattle.lego_context.specs.Entries.{HasNoHole}
 use Rattle.lego_tests.proofs.UndoLemmas.{can_be_forgotten}
