@@ -1,5 +1,5 @@
 use Rattle.std.specs.Bool.{OnTrue}
-use Rattle.std.proofs.Common.{subst, rules}
+use Rattle.std.proofs.Common.{subst}
 use Rattle.lego_context.specs.Entries.{HasNoHole}
 use Rattle.lego_tests.proofs.UndoLemmas.{universe_is_over}
 use Rattle.lego_tests.proofs.undo.add.Goals as goal
