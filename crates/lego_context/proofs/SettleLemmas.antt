@@ -85,6 +85,10 @@ universe_is_context c place h room = record {
   universes_differ = universes-push c.universes (record { variable = c.levels; place = place }) h.universes_held h.universes_differ;
 }
 
+pub universe_made : (c : Contents) (place : Place) (us : List Universe) → IsContext c → c.levels < 1048576 → us ≡ c.universes ++ record { variable = c.levels; place = place } ∷ []
+    → IsContext (record { entries = c.entries; universes = us; levels = c.levels + 1 })
+universe_made c place us h room is = subst (λ (ws : List Universe). IsContext (record { entries = c.entries; universes = ws; levels = c.levels + 1 })) (sym is) (universe_is_context c place h room)
+
 -- more level variables
 pub levels_are_context : (c : Contents) (upto : ℕ) → IsContext c → upto ≤ 1048576 → IsContext (with_levels c upto)
 levels_are_context c upto h few = record {
