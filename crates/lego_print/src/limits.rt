@@ -8,7 +8,16 @@ ghost use Rattle.lego_print.specs.Showable.{IsSmallTerm, IsSmallEntry};
 
 use crate::item::Item;
 use crate::pieces::node_value;
-use lego_term::{Node, Term};
+use lego_term::{Level, Node, Term};
+
+/// The value of a level is a number of 64 bits.
+#[tactic(auto, using(crate::proofs::LimitLemmas::level_small))]
+fn level_is_small(level: Level, values: &[u64])
+    requires { All (λ n. n < 2 ^ 63) values.now }
+    ensures { level_value values.now level < 2 ^ 64 }
+{
+    let _value = u128::from(node_value(values, level.base)) + u128::from(level.plus);
+}
 
 /// The values of the levels of a term are numbers of 64 bits.
 fn levels_are_small(term: &Term, values: &[u64])
@@ -17,9 +26,7 @@ fn levels_are_small(term: &Term, values: &[u64])
 {
     match term.view() {
         Node::Var(_) | Node::Const(_) | Node::Prop => {}
-        Node::Univ(level) => {
-            let _value = u128::from(node_value(values, level.base)) + u128::from(level.plus);
-        }
+        Node::Univ(level) => level_is_small(level, values),
         Node::Pi(_, a, b) | Node::Lam(_, a, b) | Node::Sigma(_, a, b) | Node::Local(_, a, b) => {
             levels_are_small(a, values);
             levels_are_small(b, values);
