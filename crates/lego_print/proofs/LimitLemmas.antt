@@ -1,8 +1,11 @@
 -- Values of levels that are numbers of 64 bits.
-use Rattle.std.proofs.Common.{ℕ, zero, suc, ◌+◌, ◌<◌, ◌^◌, List, [], ◌∷◌, ◌++◌, length, get_or, All, Option, Some, None, arith}
-use Rattle.std.proofs.lemmas.List.Elements.{All-nil, All-cons, All-head, All-tail, All-append}
+use Rattle.std.proofs.Common.{◌≡◌, ℕ, zero, suc, ◌+◌, ◌<◌, ◌≤◌, ◌^◌, List, [], ◌∷◌, ◌++◌, length, get_or, take, All, Option, Some, None, refl, ap, subst, arith}
+use Rattle.std.proofs.lemmas.List.Elements.{All-nil, All-cons, All-head, All-tail, All-append, All-map}
 use Rattle.lego_term.specs.Levels.{Assignment, node_value, level_value}
 use Rattle.lego_term.specs.declared.level.Level.{Level}
+use Rattle.lego_print.specs.declared.item.Item.{Item}
+use Rattle.lego_print.specs.Entries.{item_entry, item_entries}
+use Rattle.lego_print.specs.Showable.{IsSmallEntry}
 
 abbrev pub AreSmallLevels : Assignment → List Level → Type 0
 AreSmallLevels v ls = All (λ l. level_value v l < 2 ^ 64) ls
@@ -24,3 +27,13 @@ one_small v l h = All-cons (λ (l : Level). level_value v l < 2 ^ 64) l [] h (Al
 
 pub both_small : (v : Assignment) (xs ys : List Level) → AreSmallLevels v xs → AreSmallLevels v ys → AreSmallLevels v (xs ++ ys)
 both_small v xs ys h k = All-append (λ (l : Level). level_value v l < 2 ^ 64) xs ys h k
+
+-- what holds of the items, of their entries
+pub entries_small : (v : Assignment) (items : List Item) (i : ℕ) → length items ≤ i → All (λ x. IsSmallEntry v (item_entry x)) (take i items) → All (IsSmallEntry v) (item_entries items)
+entries_small v items i past h = All-map (IsSmallEntry v) item_entry items (subst (All (λ x. IsSmallEntry v (item_entry x))) (whole i items past) h)
+  where
+    whole : (n : ℕ) (xs : List Item) → length xs ≤ n → take n xs ≡ xs
+    whole zero [] l = refl
+    whole (suc n) [] l = refl
+    whole zero (x ∷ xs) l = absurd (omega arith)
+    whole (suc n) (x ∷ xs) l = ap (λ (t : List Item). x ∷ t) (whole n xs (omega arith))
