@@ -243,8 +243,7 @@ module _ (v : Assignment) (given : Names) (all : List Entry) where
         let name = s.is_name in
         let text : name_text given s.name ≡ name.text = ap (λ (o : Option (List ℕ)). unwrap_or o []) name.held in
         let before_few = s.few in
-        let small_few : length entries < 2 ^ 63 = omega arith in
-        (
+        let small_few : length entries < 2 ^ 63 = omega arith in (
           record {
             name = s.name;
             named = s.named;

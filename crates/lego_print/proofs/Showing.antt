@@ -125,8 +125,7 @@ module _ (v : Assignment) (given names : Names) (constant : ℕ → Option ℕ) 
         let texts_b = binder_texts (bound (within locals) x.name) b in
         let rest = held_back names texts_a (texts_u ++ texts_b) held.1 in
         let small_b = small_back v (levels_of a) (levels_of b) small in
-        let uses_b = (λ (i : ℕ) (u : uses_variable (suc i) b ≡ true). uses i (or_right (uses_variable i a) (uses_variable (suc i) b) u)) in
-        (
+        let uses_b = (λ (i : ℕ) (u : uses_variable (suc i) b ≡ true). uses i (or_right (uses_variable i a) (uses_variable (suc i) b) u)) in (
           shown_readable a locals (λ i u. uses i (or_left (uses_variable i a) (uses_variable (suc i) b) u)) mentions.0 binders.1 (small_front v (levels_of a) (levels_of b) small) (omega arith)
               (held_front names texts_a (texts_u ++ texts_b) held.1),
           by_side (is_arrow x b)
@@ -139,8 +138,7 @@ module _ (v : Assignment) (given names : Names) (constant : ℕ → Option ℕ) 
     shown_readable (Lam x a b) locals uses mentions binders small few held =
         let texts_a = binder_texts (within locals) a in
         let texts_b = binder_texts (bound (within locals) x.name) b in
-        let uses_b = (λ (i : ℕ) (u : uses_variable (suc i) b ≡ true). uses i (or_right (uses_variable i a) (uses_variable (suc i) b) u)) in
-        (
+        let uses_b = (λ (i : ℕ) (u : uses_variable (suc i) b ≡ true). uses i (or_right (uses_variable i a) (uses_variable (suc i) b) u)) in (
           shown_readable a locals (λ i u. uses i (or_left (uses_variable i a) (uses_variable (suc i) b) u)) mentions.0 binders.1 (small_front v (levels_of a) (levels_of b) small) (omega arith)
               (held_front names texts_a texts_b held.1),
           binder_is locals x binders.0 (omega arith) held.0,
@@ -149,8 +147,7 @@ module _ (v : Assignment) (given names : Names) (constant : ℕ → Option ℕ) 
         )
     shown_readable (App k m n) locals uses mentions binders small few held =
         let texts_m = binder_texts (within locals) m in
-        let texts_n = binder_texts (within locals) n in
-        (
+        let texts_n = binder_texts (within locals) n in (
           shown_readable m locals (λ i u. uses i (or_left (uses_variable i m) (uses_variable i n) u)) mentions.0 binders.0 (small_front v (levels_of m) (levels_of n) small) (omega arith)
               (held_front names texts_m texts_n held),
           shown_readable n locals (λ i u. uses i (or_right (uses_variable i m) (uses_variable i n) u)) mentions.1 binders.1 (small_back v (levels_of m) (levels_of n) small) (omega arith)
@@ -162,8 +159,7 @@ module _ (v : Assignment) (given names : Names) (constant : ℕ → Option ℕ) 
         let texts_b = binder_texts (bound (within locals) x.name) b in
         let rest = held_back names texts_a (texts_u ++ texts_b) held.1 in
         let small_b = small_back v (levels_of a) (levels_of b) small in
-        let uses_b = (λ (i : ℕ) (u : uses_variable (suc i) b ≡ true). uses i (or_right (uses_variable i a) (uses_variable (suc i) b) u)) in
-        (
+        let uses_b = (λ (i : ℕ) (u : uses_variable (suc i) b ≡ true). uses i (or_right (uses_variable i a) (uses_variable (suc i) b) u)) in (
           binders.0.1,
           shown_readable a locals (λ i u. uses i (or_left (uses_variable i a) (uses_variable (suc i) b) u)) mentions.0 binders.1 (small_front v (levels_of a) (levels_of b) small) (omega arith)
               (held_front names texts_a (texts_u ++ texts_b) held.1),
@@ -192,8 +188,7 @@ module _ (v : Assignment) (given names : Names) (constant : ℕ → Option ℕ) 
         let uses_m = (λ (i : ℕ) (u : uses_variable i m ≡ true). uses i (pair_third (ua i) (ub i) (um i) (un i) u)) in
         let uses_n = (λ (i : ℕ) (u : uses_variable i n ≡ true). uses i (pair_fourth (ua i) (ub i) (um i) (un i) u)) in
         let small_m = small_front v ((levels_of a ++ levels_of b) ++ levels_of m) (levels_of n) small in
-        let small_b = small_front v (levels_of a ++ levels_of b) (levels_of m) small_m in
-        (
+        let small_b = small_front v (levels_of a ++ levels_of b) (levels_of m) small_m in (
           binders.0.1,
           shown_readable a locals uses_a mentions.0 binders.1 (small_front v (levels_of a) (levels_of b) small_b) (omega arith)
               (held_front names texts_a (texts_u ++ (texts_b ++ (texts_m ++ texts_n))) held.1),
@@ -225,8 +220,7 @@ module _ (v : Assignment) (given names : Names) (constant : ℕ → Option ℕ) 
     shown_readable (Let x m b) locals uses mentions binders small few held =
         let texts_m = binder_texts (within locals) m in
         let texts_b = binder_texts (bound (within locals) x.name) b in
-        let uses_b = (λ (i : ℕ) (u : uses_variable (suc i) b ≡ true). uses i (or_right (uses_variable i m) (uses_variable (suc i) b) u)) in
-        (
+        let uses_b = (λ (i : ℕ) (u : uses_variable (suc i) b ≡ true). uses i (or_right (uses_variable i m) (uses_variable (suc i) b) u)) in (
           binders.0.1,
           shown_readable m locals (λ i u. uses i (or_left (uses_variable i m) (uses_variable (suc i) b) u)) mentions.0 binders.1 (small_front v (levels_of m) (levels_of b) small) (omega arith)
               (held_front names texts_m texts_b held.1),

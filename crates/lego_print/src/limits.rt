@@ -1,5 +1,5 @@
 //! The limits of terms, as terms and their levels show them.
-ghost use Rattle.std.specs.Prelude.{◌<◌, ◌^◌, All, IfSome};
+ghost use Rattle.std.specs.Prelude.{ℕ, ◌<◌, ◌^◌, All, IfSome, get_or};
 ghost use Rattle.std.specs.Option.{option_copied};
 ghost use Rattle.lego_term.specs.Levels.{level_value};
 ghost use Rattle.lego_term.specs.Trees.{levels_of};
@@ -13,7 +13,7 @@ use lego_term::{Level, Node, Term};
 /// The value of a level is a number of 64 bits.
 #[tactic(auto, using(crate::proofs::LimitLemmas::level_small))]
 fn level_is_small(level: Level, values: &[u64])
-    requires { All (λ n. n < 2 ^ 63) values.now }
+    requires { (u : ℕ) → get_or values.now u 0 < 2 ^ 63 }
     ensures { level_value values.now level < 2 ^ 64 }
 {
     let _value = u128::from(node_value(values, level.base)) + u128::from(level.plus);
@@ -21,7 +21,7 @@ fn level_is_small(level: Level, values: &[u64])
 
 /// The values of the levels of a term are numbers of 64 bits.
 fn levels_are_small(term: &Term, values: &[u64])
-    requires { All (λ n. n < 2 ^ 63) values.now }
+    requires { (u : ℕ) → get_or values.now u 0 < 2 ^ 63 }
     ensures { All (λ l. level_value values.now l < 2 ^ 64) (levels_of term.now) }
 {
     match term.view() {
@@ -47,7 +47,7 @@ fn levels_are_small(term: &Term, values: &[u64])
 
 /// A term is within the limits of terms.
 fn term_is_small(term: &Term, values: &[u64])
-    requires { All (λ n. n < 2 ^ 63) values.now }
+    requires { (u : ℕ) → get_or values.now u 0 < 2 ^ 63 }
     ensures { IsSmallTerm values.now term.now }
 {
     let _depth = term.depth();
@@ -56,7 +56,7 @@ fn term_is_small(term: &Term, values: &[u64])
 
 /// A body is within the limits of terms, where there is one.
 fn body_is_small(body: Option<&Term>, values: &[u64])
-    requires { All (λ n. n < 2 ^ 63) values.now }
+    requires { (u : ℕ) → get_or values.now u 0 < 2 ^ 63 }
     ensures { IfSome (option_copied body.entry) (IsSmallTerm values.now) }
 {
     if let Some(body) = body {
@@ -68,7 +68,7 @@ fn body_is_small(body: Option<&Term>, values: &[u64])
 /// are numbers of 64 bits. It reads each type and body once, and says by its contract what the
 /// types of the program show.
 pub fn items_are_small(items: &[Item<'_>], values: &[u64])
-    requires { All (λ n. n < 2 ^ 63) values.now }
+    requires { (u : ℕ) → get_or values.now u 0 < 2 ^ 63 }
     ensures { All (IsSmallEntry values.now) (item_entries items.now) }
 {
     for item in items {
