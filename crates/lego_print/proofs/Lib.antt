@@ -23,3 +23,4 @@ pub mod MoreNames
 pub mod Showing
 pub mod ShowDevelopments
 pub mod LimitLemmas
+pub mod ClosedEntries

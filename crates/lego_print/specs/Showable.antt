@@ -6,7 +6,8 @@ use Rattle.lego_term.specs.Levels.{Assignment, level_value}
 use Rattle.lego_term.specs.Trees.{Core, Var, Const, Prop, Univ, Pi, Lam, App, Sigma, Pair, Fst, Snd, Let, levels_of, depth, loose}
 use Rattle.lego_term.specs.declared.binder.Binder.{Binder}
 use Rattle.lego_term.specs.declared.binder.Mark.TheVariants.{Plain}
-use Rattle.lego_laws.specs.Entries.{Entry, entry_of}
+use Rattle.lego_laws.specs.Entries.{Entry, entry_of, entries_at}
+use Rattle.lego_laws.specs.Valid.{AreValid}
 use Rattle.lego_laws.specs.Strengthening.{MentionsOnly}
 use Rattle.lego_lexer.specs.Tokens.{Name, token_of}
 use Rattle.lego_grammar.specs.Grammar.{Names}
@@ -85,6 +86,20 @@ pub record IsShowableEntry (v : Assignment) (given : Names) (before : List Entry
 abbrev pub AreShowable : Assignment → Names → List Entry → List Entry → Type 0
 AreShowable v given before [] = Unit {0}
 AreShowable v given before (e ∷ es) = IsShowableEntry v given before e × AreShowable v given (before ++ e ∷ []) es
+
+-- the term has no loose variable, and mentions constants of these entries alone
+abbrev pub IsClosedOver : List Entry → Core → Type 0
+IsClosedOver before t = (loose t ≡ 0) × MentionsOnly (has_entry before) t
+
+-- each entry has a new number, and its type and body are closed over the entries before it
+abbrev pub AreClosedInOrder : List Entry → List Entry → Type 0
+AreClosedInOrder before [] = Unit {0}
+AreClosedInOrder before (e ∷ es) =
+    (entry_of before e.number ≡ None) × IsClosedOver before e.ty × IfSome e.body (IsClosedOver before) × AreClosedInOrder (before ++ e ∷ []) es
+
+-- so is each list of entries that is valid at an assignment
+abbrev pub ValidEntriesAreClosed : Type 0
+ValidEntriesAreClosed = (v : Assignment) (es : List Entry) → AreValid (entries_at v es) → AreClosedInOrder [] es
 
 -- Further names go on from the given numbering, which stays as it is, and all its names differ; by them the text denotes the
 -- entries at v, and has the form of a development.

@@ -28,7 +28,7 @@ pub use heading::Heading;
 pub use item::Item;
 pub use laws::{
     printed_developments_denote, printed_developments_read_back, printed_names_are_free,
-    printed_names_are_names, printed_terms_read_back,
+    printed_names_are_names, printed_terms_read_back, valid_entries_are_closed,
 };
 pub use limits::items_are_small;
 pub use lines::{Tried, constraint_text, refusal_lines, try_text};
