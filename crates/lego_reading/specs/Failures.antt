@@ -28,10 +28,11 @@ fault_of (ReadingRefusal.UnknownGoal p n) = fault.UnknownGoal p n
 fault_of (ReadingRefusal.NotSigma scope c) = fault.NotSigma (seen_in scope c)
 fault_of (ReadingRefusal.TooLarge c) = fault.TooLarge (size c) (depth c)
 
--- The head form of the core of a pair's written type is not found: it takes more steps than the limit; a value that is put for
--- its variable makes a term too large; or a term that the head sequence reaches within the limit is too large.
+-- The head form of the core of a pair's written type, with the values of local definitions put for their variables, is not found:
+-- it takes more steps than the limit; a value that is put makes a term too large; or a term that the head sequence reaches within
+-- the limit is too large.
 pub data HasNoHeadForm (es : List Entry) (limit : ℕ) (scope : Scope) (c : Core) : ReadFault → Type 0 where
-  budget : MoreThan (head_step (core_bodies es)) (put_values scope 0 c) limit → HasNoHeadForm es limit scope c (fault.Budget (seen_in scope c))
+  budget : MoreThan (head_step (core_bodies es)) (put_values scope 0 c) limit → HasNoHeadForm es limit scope c (fault.Budget (seen_in scope (put_values scope 0 c)))
   values_too_large : {i j : ℕ} (n : ℕ) → IsTooLarge (put_values (take n scope) 0 c) i j → HasNoHeadForm es limit scope c (fault.TooLarge i j)
   head_too_large : {i j : ℕ} {u : Core} (n : ℕ) → n ≤ limit → after (head_step (core_bodies es)) n (put_values scope 0 c) ≡ Some u
       → IsTooLarge u i j → HasNoHeadForm es limit scope c (fault.TooLarge i j)

@@ -40,3 +40,7 @@ variables_for next places p = option_map (λ i. next + i) (position (is_place p)
 abbrev pub with_universes : Contents → List Place → Contents
 with_universes c [] = c
 with_universes c (p ∷ ps) = with_universes (with_universe c p) ps
+
+-- the context with a universe more for each place of a written `Type`
+abbrev pub with_types_of : Contents → Written → Contents
+with_types_of c s = with_universes c (places_of s)

@@ -76,7 +76,7 @@ fn head_form(
     ) {
         Ok(reduced) => Ok(reduced.term),
         Err(ReduceFault::Budget) => Err(ReadFault::Budget {
-            left: seen(scope, ty)?,
+            left: seen(scope, with_values)?,
         }),
         Err(ReduceFault::TooLarge { size, depth }) => Err(ReadFault::TooLarge { size, depth }),
         Err(ReduceFault::Memory) => Err(ReadFault::Memory),

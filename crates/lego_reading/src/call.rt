@@ -1,5 +1,5 @@
 //! The reading of a written term over a context.
-ghost use Rattle.std.specs.Prelude.{◌≡◌, ◌≤◌, ◌+◌, ℕ, [], length, take, OnOk, OnErr};
+ghost use Rattle.std.specs.Prelude.{◌≡◌, ◌≤◌, ◌+◌, [], length, OnOk, OnErr};
 ghost use Rattle.lego_grammar.specs.Surface.{written};
 ghost use Rattle.lego_reading.specs.Calls.{CanBeRead, Reads};
 ghost use Rattle.lego_reading.specs.Universes.{places_of, with_universes};
@@ -25,8 +25,7 @@ const MAX_LEVELS: u32 = 1_048_576;
 /// theirs. Names go to the innermost local variable, else to the entry.
 ///
 /// Refused: first `Full`; then what the reading comes to first: `UnknownName`, `UnknownGoal`,
-/// `NotSigma`, `TooLarge`, `Budget`; `Memory` at any point. The entries stay as they are, and but
-/// for `Memory` so does the rest of the context.
+/// `NotSigma`, `TooLarge`, `Budget`; `Memory` at any point. Then the context is as it was.
 pub fn read(
     alloc: Global,
     context: &mut Context,
@@ -55,7 +54,7 @@ fn explicit(
     s: &Surface,
     limit: u64,
 ) -> Result<Term, ReadFault>
-    requires few { CanBeRead (written s.now) }
+    requires can { CanBeRead (written s.now) }
     requires held { places.now ≡ places_of (written s.now) }
     requires room { context.now.levels + length places.now ≤ 1048576 }
     ensures { ReadsAs context.now places.now limit [] (written s.now) result }
@@ -70,13 +69,17 @@ fn explicit(
     core_of(&setting, &mut scope, s)
 }
 
-/// Adds a universe for each place.
+/// Adds a universe for each place; where memory runs out, the context is as it was.
 fn add_universes(context: &mut Context, places: &[Place]) -> Result<(), AllocError>
     ensures ok { OnOk result (context.new ≡ with_universes context.old places.now) }
-    ensures err { OnErr result ((n : ℕ) × (context.new ≡ with_universes context.old (take n places.now))) }
+    ensures err { OnErr result (context.new ≡ context.old) }
 {
+    let entries = context.len();
+    let universes = context.universes().len();
+    let levels = context.levels();
     for place in places {
         let Ok(_) = context.fresh_level(*place) else {
+            context.cut_to(entries, universes, levels);
             return Err(AllocError);
         };
     }

@@ -22,8 +22,8 @@ pub enum ReadFault {
     /// The core of a part, or a term on the way to the head form of a pair's written type, would
     /// pass a limit; it would have this size and depth.
     TooLarge { size: u64, depth: u32 },
-    /// The head form of the core of a pair's written type, which is `left`, takes more steps than
-    /// the limit.
+    /// The head form of the core of a pair's written type, with the values of local definitions
+    /// put for their variables, which is `left`, takes more steps than the limit.
     Budget { left: Seen },
     /// The universes of the written `Type`s would make more level variables than this, which is
     /// the limit.

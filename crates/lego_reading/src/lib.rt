@@ -5,6 +5,7 @@
 mod annotation;
 mod call;
 mod fault;
+mod laws;
 mod leaves;
 mod places;
 mod reading;
@@ -14,3 +15,4 @@ mod values;
 
 pub use call::read;
 pub use fault::ReadFault;
+pub use laws::{parsed_terms_can_be_read, read_cores_keep_binders};
