@@ -9,3 +9,4 @@ pub mod AnnotationLemmas
 pub mod SizeLemmas
 pub mod RunLemmas
 pub mod CallLemmas
+pub mod ReadableLemmas
