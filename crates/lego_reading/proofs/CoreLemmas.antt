@@ -1,21 +1,23 @@
 -- What holds of each binder, constant and level that a written term says, and of those in the bodies of the entries, holds of the
 -- core's.
-use Rattle.std.proofs.Common.{◌≡◌, ℕ, List, [], ◌∷◌, map, Option, Some, None}
+use Rattle.std.proofs.Common.{◌≡◌, ℕ, Bool, true, false, nat_eq, if◌then◌else◌, List, [], ◌∷◌, map, Option, Some, None, IfSome, option_and_then, subst}
+use Rattle.std.specs.List.{AllByRecursion}
 use Rattle.std.specs.Prelude.{All}
-use Rattle.std.proofs.lemmas.List.Elements.{All-head, All-tail}
+use Rattle.std.proofs.lemmas.List.Elements.{All-head, All-tail, recursion_from_All}
 use Rattle.lego_base.specs.declared.place.Place.{Place}
 use Rattle.lego_term.specs.declared.binder.Binder.{Binder}
 use Rattle.lego_term.specs.declared.binder.Mark.{Mark}
 use Rattle.lego_term.specs.declared.level.Level.{Level}
 use Rattle.lego_term.specs.Levels.{fixed_level, variable_level}
 use Rattle.lego_term.specs.Trees.{Core, Sigma}
-use Rattle.lego_laws.specs.Entries.{Entry, core_bodies}
+use Rattle.lego_laws.specs.Entries.{Entry, core_bodies, entry_of}
 use Rattle.lego_grammar.specs.declared.surface.Kind.{Kind}
 use Rattle.lego_grammar.specs.declared.surface.Part.{Part}
 use Rattle.lego_grammar.specs.Written.{Written}
 use Rattle.lego_grammar.specs.Scopes.{LocalVariable, Scope, TypeVariables, entry_named}
 use Rattle.lego_grammar.specs.Reading.{binder, bind_core, project_core, under_first, ReadsExplicitly}
-use Rattle.lego_reading.specs.Parts.{EachPart, said_binders, EachWritten}
+use Rattle.lego_reading.specs.Parts.{EachPart, EachBinder, EachWritten}
+use Rattle.lego_reading.specs.Binders.{ReadCoresKeepBinders}
 use Rattle.lego_reading.proofs.NodeLemmas.{EachValue, parts_of_annotation}
 
 module _ (B : Binder → Type 0) (C : ℕ → Type 0) (L : Level → Type 0) (N : ℕ → Type 0) (es : List Entry) (types : TypeVariables)
@@ -56,3 +58,20 @@ module _ (B : Binder → Type 0) (C : ℕ → Type 0) (L : Level → Type 0) (N 
       let annotated = parts_of_annotation B C L es scope c (Sigma x a b) each v (core_parts r v h.2) is in
       (annotated.0, annotated.1, annotated.2, core_parts q v h.0, core_parts o v h.1)
   core_parts (ReadsExplicitly.project {part = part} {m = m} r) v h = projected_parts part m (core_parts r v h)
+
+body_of : (P : Core → Type 0) (es : List Entry) → AllByRecursion (λ e. IfSome e.body P) es → (k : ℕ) (t : Core) → core_bodies es k ≡ Some t → P t
+body_of P [] h k t e = cc
+body_of P (x ∷ es) h k t e =
+    elim (nat_eq x.number k) as (λ b. option_and_then (λ (y : Entry). y.body) (if b then Some x else entry_of es k) ≡ Some t → P t) [
+      | true ↦ λ is. here x.body h.0 is
+      | false ↦ λ is. body_of P es h.1 k t is
+    ] e
+  where
+    here : (o : Option Core) → IfSome o P → o ≡ Some t → P t
+    here None h is = cc
+    here (Some m) h is = let same : m ≡ t = cc in subst P same h
+
+pub kept_binders : ReadCoresKeepBinders
+kept_binders p es types s core bodies said r =
+    core_parts (λ x. p x ≡ true) (λ k. Unit {0}) (λ l. Unit {0}) (λ n. Unit {0}) es types
+    (body_of (EachBinder p) es (recursion_from_All _ es bodies)) (λ n e is. tt) (λ q u is. tt) (λ n h. tt) r tt said

@@ -10,3 +10,5 @@ pub mod SizeLemmas
 pub mod RunLemmas
 pub mod CallLemmas
 pub mod ReadableLemmas
+pub mod NodeLemmas
+pub mod CoreLemmas

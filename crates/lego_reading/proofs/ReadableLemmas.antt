@@ -5,10 +5,13 @@ use Rattle.std.specs.List.{AllByRecursion}
 use Rattle.std.proofs.lemmas.List.Elements.{All-nil, All-cons, recursion_from_All}
 use Rattle.lego_base.specs.declared.place.Place.{Place}
 use Rattle.lego_lexer.specs.declared.token.Word.{Word}
+use Rattle.lego_lexer.specs.declared.token.Symbol.TheVariants.{CloseSquare, CloseParen, Colon, Semicolon, Comma, Dot, Hash, Arrow, Bar}
+use Rattle.lego_lexer.specs.Tokens.{Number}
+use Rattle.lego_term.specs.declared.binder.Mark.TheVariants.{Plain}
 use Rattle.lego_term.specs.declared.binder.Binder.{Binder}
 use Rattle.lego_grammar.specs.declared.command.Command.{Command}
 use Rattle.lego_grammar.specs.Written.{Written, NameAt, WrittenBinding, WrittenAct, WrittenCommand}
-use Rattle.lego_grammar.specs.Grammar.{Names, Nested, token, symbol, Item, item, Form, Reads, NameList, names_of, ReadsBinding, ReadsBindings, TermWord, NumberWord, NameWord, LoneWord, ReadsAct, ReadsCommand}
+use Rattle.lego_grammar.specs.Grammar.{Names, Nested, token, symbol, sign, closing, Item, item, Form, Reads, NameList, names_of, ReadsBinding, ReadsBindings, TermWord, NumberWord, NameWord, LoneWord, ReadsAct, ReadsCommand}
 use Rattle.lego_grammar.specs.WrittenForm.{is_name, count_names, IsSmall, IsWrittenForm}
 use Rattle.lego_reading.specs.Calls.{locals_within, CanBeRead}
 use Rattle.lego_reading.specs.Parts.{said_binders, HasSmallLevels}
@@ -25,13 +28,13 @@ AreFine ts = AllByRecursion IsFine ts
 abbrev names_in : List Nested → ℕ
 names_in ts = count_names (map item ts)
 
+counted : (b : Bool) (n m k : ℕ) → n ≡ m + k → (if b then suc n else n) ≡ (if b then suc m else m) + k
+counted true n m k e = omega arith
+counted false n m k e = e
+
 names-append : (ts us : List Nested) → names_in (ts ++ us) ≡ names_in ts + names_in us
 names-append [] us = omega arith
-names-append (t ∷ ts) us = by_test (is_name t.lexeme)
-  where
-    by_test : (b : Bool) → (if b then suc (names_in (ts ++ us)) else names_in (ts ++ us)) ≡ (if b then suc (names_in ts) else names_in ts) + names_in us
-    by_test true = let e = names-append ts us in omega arith
-    by_test false = names-append ts us
+names-append (t ∷ ts) us = counted (is_name t.lexeme) (names_in (ts ++ us)) (names_in ts) (names_in us) (names-append ts us)
 
 -- how many binders may stand at one nesting, by the form
 abbrev slack : Form → ℕ
@@ -41,6 +44,35 @@ slack Form.Sum = 1
 slack Form.Binder = 1
 slack _ = 0
 
+any : (xs : List Binder) → All (λ (x : Binder). Unit {0}) xs
+any xs = λ k d l. tt
+
+readable_word : {w : Word} {act : Written → WrittenAct} {s : Written} → TermWord w act → CanBeRead s → CanActBeRead (act s)
+readable_word TermWord.refine c = c
+readable_word TermWord.claim c = c
+readable_word TermWord.equiv c = c
+readable_word TermWord.hnf c = c
+readable_word TermWord.normal c = c
+readable_word TermWord.goal c = c
+
+number_word : {w : Word} {act : ℕ → WrittenAct} (n : ℕ) → NumberWord w act → CanActBeRead (act n)
+number_word n NumberWord.next = tt
+number_word n NumberWord.undo = tt
+
+name_word : {w : Word} {act : NameAt → WrittenAct} (x : NameAt) → NameWord w act → CanActBeRead (act x)
+name_word x NameWord.forget = tt
+name_word x NameWord.discharge = tt
+name_word x NameWord.save = tt
+
+lone_word : {w : Word} {act : WrittenAct} → LoneWord w act → CanActBeRead act
+lone_word LoneWord.assumption = tt
+lone_word LoneWord.save = tt
+lone_word LoneWord.kill = tt
+lone_word LoneWord.prf = tt
+lone_word LoneWord.ctxt = tt
+lone_word LoneWord.explicit = tt
+lone_word LoneWord.implicit = tt
+
 module _ {names : Names} where
   listed : {d : ℕ} {ts : List Nested} {xs : List NameAt} → NameList names d ts xs → length (names_of xs) ≤ names_in ts
   listed (NameList.one e) = omega arith
@@ -48,187 +80,169 @@ module _ {names : Names} where
 
   -- some token of a reading stands at its nesting
   nested : {d : ℕ} {f : Form} {ts : List Nested} {s : Written} → Reads names d f ts s → AreFine ts → d ≤ 500
-  nested (Reads.term_ending r) h = nested r h
-  nested (Reads.term_sum r) h = nested r h
-  nested (Reads.arrow p {ts = ts} r q) h = nested r (every_left ts _ h)
-  nested (Reads.ending_binder r) h = nested r h
-  nested (Reads.apply_binder {ts = ts} r q) h = nested r (every_left ts _ h)
-  nested (Reads.apply_bar_binder p {ts = ts} r q) h = nested r (every_left ts _ h)
-  nested (Reads.hash_ending p {ts = ts} r q) h = nested r (every_left ts _ h)
-  nested (Reads.sum_spine r) h = nested r h
-  nested (Reads.hash_sum p {ts = ts} r q) h = nested r (every_left ts _ h)
-  nested (Reads.spine_post r) h = nested r h
-  nested (Reads.apply {ts = ts} r q) h = nested r (every_left ts _ h)
-  nested (Reads.apply_bar p {ts = ts} r q) h = nested r (every_left ts _ h)
-  nested (Reads.post_atom r) h = nested r h
-  nested (Reads.first p q {ts = ts} r) h = nested r (every_left ts _ h)
-  nested (Reads.second p q {ts = ts} r) h = nested r (every_left ts _ h)
-  nested (Reads.name p e) h = h.0.0
-  nested (Reads.prop p) h = h.0.0
-  nested (Reads.any_type p) h = h.0.0
-  nested (Reads.type_at p q r s) h = h.0.0
-  nested (Reads.goal p q) h = h.0.0
-  nested (Reads.parens p q r) h = h.0.0
-  nested (Reads.pair p q r s m n a) h = h.0.0
-  nested (Reads.bind p q r may l a m) h = h.0.0
-  nested (Reads.local p q r s e m b) h = h.0.0
+  nested {d} (Reads.term_ending r) h = nested r h
+  nested {d} (Reads.term_sum r) h = nested r h
+  nested {d} (Reads.arrow p {ts = ts} r q) h = nested r (every_left IsFine ts _ h)
+  nested {d} (Reads.ending_binder r) h = nested r h
+  nested {d} (Reads.apply_binder {ts = ts} r q) h = nested r (every_left IsFine ts _ h)
+  nested {d} (Reads.apply_bar_binder p {ts = ts} r q) h = nested r (every_left IsFine ts _ h)
+  nested {d} (Reads.hash_ending p {ts = ts} r q) h = nested r (every_left IsFine ts _ h)
+  nested {d} (Reads.sum_spine r) h = nested r h
+  nested {d} (Reads.hash_sum p {ts = ts} r q) h = nested r (every_left IsFine ts _ h)
+  nested {d} (Reads.spine_post r) h = nested r h
+  nested {d} (Reads.apply {ts = ts} r q) h = nested r (every_left IsFine ts _ h)
+  nested {d} (Reads.apply_bar p {ts = ts} r q) h = nested r (every_left IsFine ts _ h)
+  nested {d} (Reads.post_atom r) h = nested r h
+  nested {d} (Reads.first p q {ts = ts} r) h = nested r (every_left IsFine ts _ h)
+  nested {d} (Reads.second p q {ts = ts} r) h = nested r (every_left IsFine ts _ h)
+  nested {d} (Reads.name p e) h = h.0.0
+  nested {d} (Reads.prop p) h = h.0.0
+  nested {d} (Reads.any_type p) h = h.0.0
+  nested {d} (Reads.type_at p q r s) h = h.0.0
+  nested {d} (Reads.goal p q) h = h.0.0
+  nested {d} (Reads.parens p q r) h = h.0.0
+  nested {d} (Reads.pair p q r s m n a) h = h.0.0
+  nested {d} (Reads.bind p q r may l a m) h = h.0.0
+  nested {d} (Reads.local p q r s e m b) h = h.0.0
 
   -- the local variables are bound by names, or by binders of which two at most stand at one nesting
   bounded : {d : ℕ} {f : Form} {ts : List Nested} {s : Written} → Reads names d f ts s → AreFine ts
       → locals_within s ≤ names_in ts + (slack f + 2 * (500 - d))
-  bounded (Reads.term_ending r) h = let a = bounded r h in omega arith
-  bounded (Reads.term_sum r) h = let a = bounded r h in omega arith
-  bounded (Reads.arrow p {ts = ts} {us = us} r q) h =
-      let rest = every_right ts _ h in
-      let a = bounded r (every_left ts _ h) in let b = bounded q rest.1 in let l = nested q rest.1 in
-      let n = names-append ts (symbol _ p _ ∷ us) in omega arith
-  bounded (Reads.ending_binder r) h = bounded r h
-  bounded (Reads.apply_binder {ts = ts} {us = us} r q) h =
-      let a = bounded r (every_left ts _ h) in let b = bounded q (every_right ts _ h) in let n = names-append ts us in omega arith
-  bounded (Reads.apply_bar_binder p {ts = ts} {us = us} r q) h =
-      let rest = every_right ts _ h in
-      let a = bounded r (every_left ts _ h) in let b = bounded q rest.1 in let n = names-append ts (symbol _ p _ ∷ us) in omega arith
-  bounded (Reads.hash_ending p {ts = ts} {us = us} r q) h =
-      let rest = every_right ts _ h in
-      let a = bounded r (every_left ts _ h) in let b = bounded q rest.1 in let l = nested q rest.1 in
-      let n = names-append ts (symbol _ p _ ∷ us) in omega arith
-  bounded (Reads.sum_spine r) h = let a = bounded r h in omega arith
-  bounded (Reads.hash_sum p {ts = ts} {us = us} r q) h =
-      let rest = every_right ts _ h in
-      let a = bounded r (every_left ts _ h) in let b = bounded q rest.1 in let l = nested q rest.1 in
-      let n = names-append ts (symbol _ p _ ∷ us) in omega arith
-  bounded (Reads.spine_post r) h = bounded r h
-  bounded (Reads.apply {ts = ts} {us = us} r q) h =
-      let a = bounded r (every_left ts _ h) in let b = bounded q (every_right ts _ h) in let n = names-append ts us in omega arith
-  bounded (Reads.apply_bar p {ts = ts} {us = us} r q) h =
-      let rest = every_right ts _ h in
-      let a = bounded r (every_left ts _ h) in let b = bounded q rest.1 in let n = names-append ts (symbol _ p _ ∷ us) in omega arith
-  bounded (Reads.post_atom r) h = bounded r h
-  bounded (Reads.first p q {ts = ts} r) h = let a = bounded r (every_left ts _ h) in let n = names-append ts (symbol _ p _ ∷ token _ q _ ∷ []) in omega arith
-  bounded (Reads.second p q {ts = ts} r) h = let a = bounded r (every_left ts _ h) in let n = names-append ts (symbol _ p _ ∷ token _ q _ ∷ []) in omega arith
-  bounded (Reads.name p e) h = omega arith
-  bounded (Reads.prop p) h = omega arith
-  bounded (Reads.any_type p) h = omega arith
-  bounded (Reads.type_at p q r s) h = omega arith
-  bounded (Reads.goal p q) h = omega arith
-  bounded (Reads.parens p q {ts = ts} r) h =
-      let inner = every_left ts _ h.1 in
-      let a = bounded r inner in let l = nested r inner in let n = names-append ts (symbol _ q _ ∷ []) in omega arith
-  bounded (Reads.pair p q r s {ts = ts} {us = us} {vs = vs} m n a) h =
-      let behind = every_right ts _ h.1 in let last = every_right us _ behind.1 in
-      let i = bounded m (every_left ts _ h.1) in let j = bounded n (every_left us _ behind.1) in let k = bounded a (every_left vs _ last.1) in
-      let l = nested m (every_left ts _ h.1) in
-      let c = names-append ts (symbol _ q _ ∷ us ++ symbol _ r _ ∷ vs ++ symbol _ s _ ∷ []) in
-      let e = names-append us (symbol _ r _ ∷ vs ++ symbol _ s _ ∷ []) in
-      let g = names-append vs (symbol _ s _ ∷ []) in
+  bounded {d} (Reads.term_ending r) h = let a = bounded r h in omega arith
+  bounded {d} (Reads.term_sum r) h = let a = bounded r h in omega arith
+  bounded {d} (Reads.arrow p {ts = ts} {us = us} r q) h =
+      let rest = every_right IsFine ts _ h in
+      let a = bounded r (every_left IsFine ts _ h) in let b = bounded q rest.1 in let l = nested q rest.1 in
+      let n = names-append ts (symbol d p Arrow ∷ us) in omega arith
+  bounded {d} (Reads.ending_binder r) h = bounded r h
+  bounded {d} (Reads.apply_binder {ts = ts} {us = us} r q) h =
+      let a = bounded r (every_left IsFine ts _ h) in let b = bounded q (every_right IsFine ts _ h) in let n = names-append ts us in omega arith
+  bounded {d} (Reads.apply_bar_binder p {ts = ts} {us = us} r q) h =
+      let rest = every_right IsFine ts _ h in
+      let a = bounded r (every_left IsFine ts _ h) in let b = bounded q rest.1 in let n = names-append ts (symbol d p Bar ∷ us) in omega arith
+  bounded {d} (Reads.hash_ending p {ts = ts} {us = us} r q) h =
+      let rest = every_right IsFine ts _ h in
+      let a = bounded r (every_left IsFine ts _ h) in let b = bounded q rest.1 in let l = nested q rest.1 in
+      let n = names-append ts (symbol d p Hash ∷ us) in omega arith
+  bounded {d} (Reads.sum_spine r) h = let a = bounded r h in omega arith
+  bounded {d} (Reads.hash_sum p {ts = ts} {us = us} r q) h =
+      let rest = every_right IsFine ts _ h in
+      let a = bounded r (every_left IsFine ts _ h) in let b = bounded q rest.1 in let l = nested q rest.1 in
+      let n = names-append ts (symbol d p Hash ∷ us) in omega arith
+  bounded {d} (Reads.spine_post r) h = bounded r h
+  bounded {d} (Reads.apply {ts = ts} {us = us} r q) h =
+      let a = bounded r (every_left IsFine ts _ h) in let b = bounded q (every_right IsFine ts _ h) in let n = names-append ts us in omega arith
+  bounded {d} (Reads.apply_bar p {ts = ts} {us = us} r q) h =
+      let rest = every_right IsFine ts _ h in
+      let a = bounded r (every_left IsFine ts _ h) in let b = bounded q rest.1 in let n = names-append ts (symbol d p Bar ∷ us) in omega arith
+  bounded {d} (Reads.post_atom r) h = bounded r h
+  bounded {d} (Reads.first p q {ts = ts} r) h =
+      let a = bounded r (every_left IsFine ts _ h) in let n = names-append ts (symbol d p Dot ∷ token d q (Number 1) ∷ []) in omega arith
+  bounded {d} (Reads.second p q {ts = ts} r) h =
+      let a = bounded r (every_left IsFine ts _ h) in let n = names-append ts (symbol d p Dot ∷ token d q (Number 2) ∷ []) in omega arith
+  bounded {d} (Reads.name p e) h = omega arith
+  bounded {d} (Reads.prop p) h = omega arith
+  bounded {d} (Reads.any_type p) h = omega arith
+  bounded {d} (Reads.type_at p q r s) h = omega arith
+  bounded {d} (Reads.goal p q) h = omega arith
+  bounded {d} (Reads.parens p q {ts = ts} r) h =
+      let end = symbol d q CloseParen ∷ [] in
+      let inner = every_left IsFine ts end h.1 in
+      let a = bounded r inner in let l = nested r inner in let n = names-append ts end in omega arith
+  bounded {d} (Reads.pair p q r s {ts = ts} {us = us} {vs = vs} m n a) h =
+      let second = symbol (suc d) q Comma ∷ us in let third = symbol (suc d) r Colon ∷ vs in let end = symbol d s CloseParen ∷ [] in
+      let three = every_left IsFine ((ts ++ second) ++ third) end h.1 in let two = every_left IsFine (ts ++ second) third three in
+      let inner = every_left IsFine ts second two in
+      let i = bounded m inner in let j = bounded n (every_right IsFine ts second two).1 in
+      let k = bounded a (every_right IsFine (ts ++ second) third three).1 in let l = nested m inner in
+      let c = names-append ((ts ++ second) ++ third) end in let e = names-append (ts ++ second) third in let g = names-append ts second in
       omega arith
-  bounded (Reads.bind p q r {ns = ns} {ts = ts} {us = us} may l a m) h =
-      let behind = every_right ns _ h.1 in let last = every_right ts _ behind.1 in
-      let i = bounded a (every_left ts _ behind.1) in let j = bounded m last.1 in let k = listed l in
-      let deep = nested m last.1 in
-      let c = names-append ns (symbol _ q _ ∷ ts ++ symbol _ r _ ∷ us) in
-      let e = names-append ts (symbol _ r _ ∷ us) in
+  bounded {d} (Reads.bind p q r {kind = kind} {mark = mark} {ns = ns} {ts = ts} {us = us} may l a m) h =
+      let domain = symbol (suc d) q (sign mark) ∷ ts in let body = symbol d r (closing kind) ∷ us in
+      let front = every_left IsFine (ns ++ domain) body h.1 in let last = every_right IsFine (ns ++ domain) body h.1 in
+      let i = bounded a (every_right IsFine ns domain front).1 in let j = bounded m last.1 in let k = listed l in
+      let deep = nested m last.1 in let c = names-append (ns ++ domain) body in let e = names-append ns domain in
       omega arith
-  bounded (Reads.local p q r s {ts = ts} {us = us} named m b) h =
-      let last = every_right ts _ h.3 in
-      let i = bounded m (every_left ts _ h.3) in let j = bounded b last.1 in
-      let deep = nested b last.1 in
-      let e = names-append ts (symbol _ s _ ∷ us) in
+  bounded {d} (Reads.local p q r s {ts = ts} {us = us} named m b) h =
+      let body = symbol d s CloseSquare ∷ us in let last = every_right IsFine ts body h.1.1.1 in
+      let i = bounded m (every_left IsFine ts body h.1.1.1) in let j = bounded b last.1 in let deep = nested b last.1 in
+      let e = names-append ts body in
       omega arith
-
-  any : (xs : List Binder) → All (λ (x : Binder). Unit {0}) xs
-  any xs = λ k d l. tt
 
   small : {d : ℕ} {f : Form} {ts : List Nested} {s : Written} → Reads names d f ts s → AreFine ts → HasSmallLevels s
-  small (Reads.term_ending r) h = small r h
-  small (Reads.term_sum r) h = small r h
-  small (Reads.arrow p {ts = ts} r q) h = (any _, small r (every_left ts _ h), small q (every_right ts _ h).1)
-  small (Reads.ending_binder r) h = small r h
-  small (Reads.apply_binder {ts = ts} r q) h = (small r (every_left ts _ h), small q (every_right ts _ h))
-  small (Reads.apply_bar_binder p {ts = ts} r q) h = (small r (every_left ts _ h), small q (every_right ts _ h).1)
-  small (Reads.hash_ending p {ts = ts} r q) h = (any _, small r (every_left ts _ h), small q (every_right ts _ h).1)
-  small (Reads.sum_spine r) h = small r h
-  small (Reads.hash_sum p {ts = ts} r q) h = (any _, small r (every_left ts _ h), small q (every_right ts _ h).1)
-  small (Reads.spine_post r) h = small r h
-  small (Reads.apply {ts = ts} r q) h = (small r (every_left ts _ h), small q (every_right ts _ h))
-  small (Reads.apply_bar p {ts = ts} r q) h = (small r (every_left ts _ h), small q (every_right ts _ h).1)
-  small (Reads.post_atom r) h = small r h
-  small (Reads.first p q {ts = ts} r) h = small r (every_left ts _ h)
-  small (Reads.second p q {ts = ts} r) h = small r (every_left ts _ h)
-  small (Reads.name p e) h = tt
-  small (Reads.prop p) h = tt
-  small (Reads.any_type p) h = tt
-  small (Reads.type_at p q r s) h = h.2.1
-  small (Reads.goal p q) h = tt
-  small (Reads.parens p q {ts = ts} r) h = small r (every_left ts _ h.1)
-  small (Reads.pair p q r s {ts = ts} {us = us} {vs = vs} m n a) h =
-      let behind = every_right ts _ h.1 in let last = every_right us _ behind.1 in
-      (small m (every_left ts _ h.1), small n (every_left us _ behind.1), small a (every_left vs _ last.1))
-  small (Reads.bind p q r {ns = ns} {ts = ts} may l a m) h =
-      let behind = every_right ns _ h.1 in (any _, small a (every_left ts _ behind.1), small m (every_right ts _ behind.1).1)
-  small (Reads.local p q r s {ts = ts} named m b) h = (tt, small m (every_left ts _ h.3), small b (every_right ts _ h.3).1)
+  small {d} (Reads.term_ending r) h = small r h
+  small {d} (Reads.term_sum r) h = small r h
+  small {d} (Reads.arrow p {ts = ts} r q) h = (any (said_binders Plain []), small r (every_left IsFine ts _ h), small q (every_right IsFine ts _ h).1)
+  small {d} (Reads.ending_binder r) h = small r h
+  small {d} (Reads.apply_binder {ts = ts} r q) h = (small r (every_left IsFine ts _ h), small q (every_right IsFine ts _ h))
+  small {d} (Reads.apply_bar_binder p {ts = ts} r q) h = (small r (every_left IsFine ts _ h), small q (every_right IsFine ts _ h).1)
+  small {d} (Reads.hash_ending p {ts = ts} r q) h = (any (said_binders Plain []), small r (every_left IsFine ts _ h), small q (every_right IsFine ts _ h).1)
+  small {d} (Reads.sum_spine r) h = small r h
+  small {d} (Reads.hash_sum p {ts = ts} r q) h = (any (said_binders Plain []), small r (every_left IsFine ts _ h), small q (every_right IsFine ts _ h).1)
+  small {d} (Reads.spine_post r) h = small r h
+  small {d} (Reads.apply {ts = ts} r q) h = (small r (every_left IsFine ts _ h), small q (every_right IsFine ts _ h))
+  small {d} (Reads.apply_bar p {ts = ts} r q) h = (small r (every_left IsFine ts _ h), small q (every_right IsFine ts _ h).1)
+  small {d} (Reads.post_atom r) h = small r h
+  small {d} (Reads.first p q {ts = ts} r) h = small r (every_left IsFine ts _ h)
+  small {d} (Reads.second p q {ts = ts} r) h = small r (every_left IsFine ts _ h)
+  small {d} (Reads.name p e) h = tt
+  small {d} (Reads.prop p) h = tt
+  small {d} (Reads.any_type p) h = tt
+  small {d} (Reads.type_at p q r s) h = h.1.1.0.1
+  small {d} (Reads.goal p q) h = tt
+  small {d} (Reads.parens p q {ts = ts} r) h = small r (every_left IsFine ts (symbol d q CloseParen ∷ []) h.1)
+  small {d} (Reads.pair p q r s {ts = ts} {us = us} {vs = vs} m n a) h =
+      let second = symbol (suc d) q Comma ∷ us in let third = symbol (suc d) r Colon ∷ vs in let end = symbol d s CloseParen ∷ [] in
+      let three = every_left IsFine ((ts ++ second) ++ third) end h.1 in let two = every_left IsFine (ts ++ second) third three in
+      (small m (every_left IsFine ts second two), small n (every_right IsFine ts second two).1, small a (every_right IsFine (ts ++ second) third three).1)
+  small {d} (Reads.bind p q r {kind = kind} {mark = mark} {ns = ns} {ts = ts} {us = us} {xs = xs} may l a m) h =
+      let domain = symbol (suc d) q (sign mark) ∷ ts in let body = symbol d r (closing kind) ∷ us in
+      let front = every_left IsFine (ns ++ domain) body h.1 in
+      (any (said_binders mark (names_of xs)), small a (every_right IsFine ns domain front).1, small m (every_right IsFine (ns ++ domain) body h.1).1)
+  small {d} (Reads.local p q r s {ts = ts} {us = us} named m b) h =
+      let body = symbol d s CloseSquare ∷ us in
+      (tt, small m (every_left IsFine ts body h.1.1.1), small b (every_right IsFine ts body h.1.1.1).1)
 
   readable : {d : ℕ} {ts : List Nested} {s : Written} → Reads names d Form.Term ts s → AreFine ts → names_in ts ≤ 32768 → CanBeRead s
   readable r h n = record { few = (let a = bounded r h in omega arith); small = small r h }
 
   readable_binding : {ts : List Nested} {b : WrittenBinding} → ReadsBinding names ts b → AreFine ts → names_in ts ≤ 32768 → CanKindBeRead b.kind
-  readable_binding (ReadsBinding.assume p q r {ns = ns} {ts = ts} l a) h n =
-      let behind = every_right ns _ h.1 in
-      let c = names-append ns (symbol _ q _ ∷ ts ++ symbol _ r _ ∷ []) in let e = names-append ts (symbol _ r _ ∷ []) in
-      readable a (every_left ts _ behind.1) (omega arith)
+  readable_binding (ReadsBinding.assume p q r {mark = mark} {ns = ns} {ts = ts} l a) h n =
+      let domain = symbol 1 q (sign mark) ∷ ts in let end = symbol 0 r CloseSquare ∷ [] in
+      let front = every_left IsFine (ns ++ domain) end h.1 in
+      let c = names-append (ns ++ domain) end in let e = names-append ns domain in
+      readable a (every_right IsFine ns domain front).1 (omega arith)
   readable_binding (ReadsBinding.define p q r s {ts = ts} named m) h n =
-      let e = names-append ts (symbol _ s _ ∷ []) in readable m (every_left ts _ h.3) (omega arith)
+      let end = symbol 0 s CloseSquare ∷ [] in let e = names-append ts end in readable m (every_left IsFine ts end h.1.1.1) (omega arith)
   readable_binding (ReadsBinding.define_typed p q r s t {ts = ts} {us = us} named m a) h n =
-      let behind = every_right ts _ h.3 in
-      let c = names-append ts (symbol _ s _ ∷ us ++ symbol _ t _ ∷ []) in let e = names-append us (symbol _ t _ ∷ []) in
-      (readable m (every_left ts _ h.3) (omega arith), readable a (every_left us _ behind.1) (omega arith))
+      let stated = symbol 1 s Colon ∷ us in let end = symbol 0 t CloseSquare ∷ [] in
+      let front = every_left IsFine (ts ++ stated) end h.1.1.1 in
+      let c = names-append (ts ++ stated) end in let e = names-append ts stated in
+      (readable m (every_left IsFine ts stated front) (omega arith), readable a (every_right IsFine ts stated front).1 (omega arith))
 
   readable_bindings : {ts : List Nested} {bs : List WrittenBinding} → ReadsBindings names ts bs → AreFine ts → names_in ts ≤ 32768
       → All (λ b. CanKindBeRead b.kind) bs
-  readable_bindings (ReadsBindings.one {b = b} r) h n = All-cons _ b [] (readable_binding r h n) (All-nil _)
+  readable_bindings (ReadsBindings.one {b = b} r) h n =
+      All-cons (λ x. CanKindBeRead x.kind) b [] (readable_binding r h n) (All-nil (λ (x : WrittenBinding). CanKindBeRead x.kind))
   readable_bindings (ReadsBindings.more {ts = ts} {us = us} {b = b} {bs = bs} r rs) h n =
       let e = names-append ts us in
-      All-cons _ b bs (readable_binding r (every_left ts _ h) (omega arith)) (readable_bindings rs (every_right ts _ h) (omega arith))
-
-  readable_word : {w : Word} {act : Written → WrittenAct} {s : Written} → TermWord w act → CanBeRead s → CanActBeRead (act s)
-  readable_word TermWord.refine c = c
-  readable_word TermWord.claim c = c
-  readable_word TermWord.equiv c = c
-  readable_word TermWord.hnf c = c
-  readable_word TermWord.normal c = c
-  readable_word TermWord.goal c = c
-
-  number_word : {w : Word} {act : ℕ → WrittenAct} {n : ℕ} → NumberWord w act → CanActBeRead (act n)
-  number_word NumberWord.next = tt
-  number_word NumberWord.undo = tt
-
-  name_word : {w : Word} {act : NameAt → WrittenAct} {x : NameAt} → NameWord w act → CanActBeRead (act x)
-  name_word NameWord.forget = tt
-  name_word NameWord.discharge = tt
-  name_word NameWord.save = tt
-
-  lone_word : {w : Word} {act : WrittenAct} → LoneWord w act → CanActBeRead act
-  lone_word LoneWord.assumption = tt
-  lone_word LoneWord.save = tt
-  lone_word LoneWord.kill = tt
-  lone_word LoneWord.prf = tt
-  lone_word LoneWord.ctxt = tt
-  lone_word LoneWord.explicit = tt
-  lone_word LoneWord.implicit = tt
+      All-cons (λ x. CanKindBeRead x.kind) b bs (readable_binding r (every_left IsFine ts us h) (omega arith))
+      (readable_bindings rs (every_right IsFine ts us h) (omega arith))
 
   readable_act : {ts : List Nested} {act : WrittenAct} → ReadsAct names ts act → AreFine ts → names_in ts ≤ 32768 → CanActBeRead act
   readable_act (ReadsAct.bindings rs) h n = readable_bindings rs h n
   readable_act (ReadsAct.show r) h n = readable r h n
   readable_act (ReadsAct.with_term w r) h n = readable_word w (readable r h.1 n)
-  readable_act (ReadsAct.named_goal named r) h n = readable r h.3 (omega arith)
+  readable_act (ReadsAct.named_goal named r) h n = readable r h.1.1.1 (omega arith)
   readable_act (ReadsAct.intros ns) h n = tt
-  readable_act (ReadsAct.with_number w) h n = number_word w
-  readable_act (ReadsAct.with_name w named) h n = name_word w
+  readable_act (ReadsAct.with_number {n = k} w) h n = number_word k w
+  readable_act (ReadsAct.with_name {q = q} {n = k} w named) h n = name_word (record { place = q; name = k }) w
   readable_act (ReadsAct.alone w) h n = lone_word w
 
   readable_command : {ts : List Nested} {c : WrittenCommand} → ReadsCommand names ts c → AreFine ts → names_in ts ≤ 32768 → CanActBeRead c.act
   readable_command (ReadsCommand.command {t = t} {ts = ts} p r) h n =
-      let e = names-append (t ∷ ts) (symbol _ p _ ∷ []) in readable_act r (every_left (t ∷ ts) _ h) (omega arith)
+      let end = symbol 0 p Semicolon ∷ [] in
+      let e = names-append (t ∷ ts) end in readable_act r (every_left IsFine (t ∷ ts) end h) (omega arith)
 
 fine : (ts : List Nested) → AllByRecursion (λ t. t.nesting ≤ 500) ts → AllByRecursion (λ t. IsSmall t.lexeme) (map item ts) → AreFine ts
 fine [] d s = tt
