@@ -10,9 +10,9 @@ use Rattle.lego_laws.specs.Entries.{Entry, core_bodies}
 use Rattle.lego_laws.proofs.lemmas.reduction.HeadSteps.{head_steps}
 use Rattle.lego_grammar.specs.Scopes.{LocalVariable, Scope, put_values}
 use Rattle.lego_grammar.specs.Reading.{Annotates}
-use Rattle.lego_reading.specs.Parts.{EachPart}
+use Rattle.lego_reading.specs.Parts.{BinderKind, EachPart}
 
-module _ (B : Binder → Type 0) (C : ℕ → Type 0) (L : Level → Type 0) where
+module _ (B : BinderKind → Binder → Type 0) (C : ℕ → Type 0) (L : Level → Type 0) where
   parts_lifted : (from by : ℕ) (t : Core) → EachPart B C L t → EachPart B C L (lift from by t)
   parts_lifted from by (Var i) h = tt
   parts_lifted from by (Const k) h = h

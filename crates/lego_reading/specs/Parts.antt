@@ -1,50 +1,34 @@
--- What holds of each binder, constant and level of a term, and of each binder and explicit level of a written term.
-use Rattle.std.specs.Prelude.{◌≡◌, ℕ, ◌≤◌, List, [], ◌∷◌, map, All, Bool, true, Some, None}
+-- What holds of each binder, constant and level of a term.
+use Rattle.std.specs.Prelude.{ℕ, List, IfSome}
+use Rattle.std.specs.List.{AllByRecursion}
 use Rattle.lego_term.specs.declared.binder.Binder.{Binder}
-use Rattle.lego_term.specs.declared.binder.Mark.{Mark}
-use Rattle.lego_term.specs.declared.binder.Mark.TheVariants.{Plain}
 use Rattle.lego_term.specs.declared.level.Level.{Level}
 use Rattle.lego_term.specs.Trees.{Core, Var, Const, Prop, Univ, Pi, Lam, App, Sigma, Pair, Fst, Snd, Let}
-use Rattle.lego_grammar.specs.Reading.{binder}
-use Rattle.lego_grammar.specs.Written.{Written, TypeAt, Bind, Local, Apply, Pair as Pairs, Project}
+use Rattle.lego_laws.specs.Entries.{Entry}
+
+-- what a binder belongs to: a product or a function, a Sigma type or a pair, or a local definition
+pub data BinderKind : Type 0 where
+  OfFunction OfPair OfLocal : BinderKind
 
 -- each binder, each constant and each level of the tree is so
-abbrev pub EachPart : (Binder → Type 0) → (ℕ → Type 0) → (Level → Type 0) → Core → Type 0
+abbrev pub EachPart : (binder : BinderKind → Binder → Type 0) → (constant : ℕ → Type 0) → (level : Level → Type 0) → Core → Type 0
 EachPart b c l (Var i) = Unit {0}
 EachPart b c l (Const k) = c k
 EachPart b c l Prop = Unit {0}
 EachPart b c l (Univ u) = l u
-EachPart b c l (Pi x a r) = b x × EachPart b c l a × EachPart b c l r
-EachPart b c l (Lam x a m) = b x × EachPart b c l a × EachPart b c l m
+EachPart b c l (Pi x a r) = b OfFunction x × EachPart b c l a × EachPart b c l r
+EachPart b c l (Lam x a m) = b OfFunction x × EachPart b c l a × EachPart b c l m
 EachPart b c l (App k m n) = EachPart b c l m × EachPart b c l n
-EachPart b c l (Sigma x a r) = b x × EachPart b c l a × EachPart b c l r
-EachPart b c l (Pair x a r m n) = b x × EachPart b c l a × EachPart b c l r × EachPart b c l m × EachPart b c l n
+EachPart b c l (Sigma x a r) = b OfPair x × EachPart b c l a × EachPart b c l r
+EachPart b c l (Pair x a r m n) = b OfPair x × EachPart b c l a × EachPart b c l r × EachPart b c l m × EachPart b c l n
 EachPart b c l (Fst m) = EachPart b c l m
 EachPart b c l (Snd m) = EachPart b c l m
-EachPart b c l (Let x m n) = b x × EachPart b c l m × EachPart b c l n
+EachPart b c l (Let x m n) = b OfLocal x × EachPart b c l m × EachPart b c l n
 
--- each binder of the tree has the property
-abbrev pub EachBinder : (Binder → Bool) → Core → Type 0
-EachBinder p t = EachPart (λ x. p x ≡ true) (λ k. Unit {0}) (λ l. Unit {0}) t
+-- each binder of the tree is so
+abbrev pub EachBinder : (BinderKind → Binder → Type 0) → Core → Type 0
+EachBinder b t = EachPart b (λ k. Unit {0}) (λ l. Unit {0}) t
 
--- the binders that a written binder says: one of each name, or one without a name
-abbrev pub said_binders : Mark → List ℕ → List Binder
-said_binders mark [] = binder None mark ∷ []
-said_binders mark (n ∷ names) = map (λ m. binder (Some m) mark) (n ∷ names)
-
--- each binder that a written term says is so, and each explicit level; a local definition is plain
-abbrev pub EachWritten : (Binder → Type 0) → (ℕ → Type 0) → Written → Type 0
-EachWritten b l (TypeAt n) = l n
-EachWritten b l (Bind kind mark names s t) = All b (said_binders mark names) × EachWritten b l s × EachWritten b l t
-EachWritten b l (Local n s t) = b (binder (Some n) Plain) × EachWritten b l s × EachWritten b l t
-EachWritten b l (Apply mark s t) = EachWritten b l s × EachWritten b l t
-EachWritten b l (Pairs m n t) = EachWritten b l m × EachWritten b l n × EachWritten b l t
-EachWritten b l (Project part s) = EachWritten b l s
-EachWritten b l _ = Unit {0}
-
-abbrev pub EachWrittenBinder : (Binder → Bool) → Written → Type 0
-EachWrittenBinder p s = EachWritten (λ x. p x ≡ true) (λ n. Unit {0}) s
-
--- each explicit level is at most 1,000,000
-abbrev pub HasSmallLevels : Written → Type 0
-HasSmallLevels s = EachWritten (λ x. Unit {0}) (λ n. n ≤ 1000000) s
+-- so of each type and each body of the entries
+abbrev pub HoldsInEntries : (Core → Type 0) → List Entry → Type 0
+HoldsInEntries P es = AllByRecursion (λ e. P e.ty × IfSome e.body P) es
