@@ -7,7 +7,7 @@ use Rattle.lego_grammar.specs.Written.{Written}
 use Rattle.lego_grammar.specs.Scopes.{Scope, TypeVariables}
 use Rattle.lego_laws.specs.Entries.{Entry}
 use Rattle.lego_inference.specs.Entries.{laws_entries}
-use Rattle.lego_context.specs.Contexts.{Contents}
+use Rattle.lego_context.specs.Contexts.{Contents, AreOverFronts}
 use Rattle.lego_reading.specs.declared.fault.ReadFault.{ReadFault}
 use Rattle.lego_reading.specs.declared.fault.ReadFault.TheVariants as fault
 use Rattle.lego_reading.specs.Universes.{type_places, places_of, variables_for, with_universes}
@@ -15,7 +15,7 @@ use Rattle.lego_reading.specs.Failures.{Fails}
 use Rattle.lego_reading.specs.Calls.{CanBeRead, HasRoom, IsUnread, Reads}
 use Rattle.lego_reading.specs.private.Parts.{IsReady, IsReading, Stops, ReadsAs}
 use Rattle.lego_reading.proofs.UniverseLemmas.{all_held}
-use Rattle.lego_reading.proofs.OverLemmas.{AreBodiesOver, core_over}
+use Rattle.lego_reading.proofs.OverLemmas.{core_over}
 
 pub ready : (c : Contents) (places : List Place) (s : Written) → CanBeRead s → places ≡ places_of s → c.levels + length places ≤ 1048576
     → IsReady c places [] s
@@ -30,7 +30,7 @@ module _ (c : Contents) (places : List Place) (s : Written) (limit : ℕ) (is : 
   room : c.levels + length places ≤ 1048576 → HasRoom c s
   room le = subst (λ ps. c.levels + length ps ≤ 1048576) is le
 
-  pub read_core : (core : Core) (new : Contents) → c.levels + length places ≤ 1048576 → AreBodiesOver c → CanBeRead s
+  pub read_core : (core : Core) (new : Contents) → c.levels + length places ≤ 1048576 → AreOverFronts c → CanBeRead s
       → IsReading (laws_entries c.entries) (variables_for c.levels places) [] s core
       → new ≡ with_universes c places → Reads c s limit new (Ok core)
   read_core core new le over can r e =

@@ -1,6 +1,6 @@
 -- What holds of each binder, constant and level that a written term says, and of those in the bodies of the entries, holds of the
 -- core's.
-use Rattle.std.proofs.Common.{◌≡◌, ℕ, Bool, true, false, nat_eq, if◌then◌else◌, List, [], ◌∷◌, map, Option, Some, None, IfSome, option_and_then, subst}
+use Rattle.std.proofs.Common.{◌≡◌, ℕ, IsTrue, List, [], ◌∷◌, map, Option, Some, None}
 use Rattle.std.specs.Prelude.{All}
 use Rattle.std.proofs.lemmas.List.Elements.{All-head, All-tail}
 use Rattle.lego_base.specs.declared.place.Place.{Place}
@@ -9,15 +9,17 @@ use Rattle.lego_term.specs.declared.binder.Mark.{Mark}
 use Rattle.lego_term.specs.declared.level.Level.{Level}
 use Rattle.lego_term.specs.Levels.{fixed_level, variable_level}
 use Rattle.lego_term.specs.Trees.{Core, Sigma}
-use Rattle.lego_laws.specs.Entries.{Entry, core_bodies, entry_of}
+use Rattle.lego_laws.specs.Entries.{Entry, core_bodies}
 use Rattle.lego_grammar.specs.declared.surface.Kind.{Kind}
 use Rattle.lego_grammar.specs.declared.surface.Part.{Part}
 use Rattle.lego_grammar.specs.Written.{Written}
 use Rattle.lego_grammar.specs.Scopes.{LocalVariable, Scope, TypeVariables, entry_named}
 use Rattle.lego_grammar.specs.Reading.{binder, bind_core, project_core, under_first, ReadsExplicitly}
-use Rattle.lego_reading.specs.Parts.{BinderKind, EachPart, EachBinder, HoldsInEntries}
+use Rattle.lego_inference.specs.Binders.{BinderKind, EachPart, EachBinder}
+use Rattle.lego_inference.specs.Entries.{HoldsInEntries}
+use Rattle.lego_inference.proofs.RuleTypeParts.{body_holds}
 use Rattle.lego_reading.specs.Written.{kind_of, EachWritten, EachWrittenBinder}
-use Rattle.lego_reading.specs.Binders.{Has, ReadCoresKeepBinders}
+use Rattle.lego_reading.specs.Binders.{ReadCoresKeepBinders}
 use Rattle.lego_reading.proofs.NodeLemmas.{EachValue, parts_of_annotation}
 
 module _ (B : BinderKind → Binder → Type 0) (C : ℕ → Type 0) (L : Level → Type 0) (N : ℕ → Type 0) (es : List Entry) (types : TypeVariables)
@@ -59,24 +61,12 @@ module _ (B : BinderKind → Binder → Type 0) (C : ℕ → Type 0) (L : Level 
       (annotated.0, annotated.1, annotated.2, core_parts q v h.0, core_parts o v h.1)
   core_parts (ReadsExplicitly.project {part = part} {m = m} r) v h = projected_parts part m (core_parts r v h)
 
-pub body_of : (P : Core → Type 0) (es : List Entry) → HoldsInEntries P es → (k : ℕ) (t : Core) → core_bodies es k ≡ Some t → P t
-body_of P [] h k t e = cc
-body_of P (x ∷ es) h k t e =
-    elim (nat_eq x.number k) as (λ b. option_and_then (λ (y : Entry). y.body) (if b then Some x else entry_of es k) ≡ Some t → P t) [
-      | true ↦ λ is. here x.body h.0.1 is
-      | false ↦ λ is. body_of P es h.1 k t is
-    ] e
-  where
-    here : (o : Option Core) → IfSome o P → o ≡ Some t → P t
-    here None h is = cc
-    here (Some m) h is = let same : m ≡ t = cc in subst P same h
-
 -- what holds of each binder of a written term, and of each of the entries, holds of each binder of its core
 pub kept_binders : (B : BinderKind → Binder → Type 0) (es : List Entry) (types : TypeVariables) (s : Written) (core : Core)
     → HoldsInEntries (EachBinder B) es → EachWrittenBinder B s → ReadsExplicitly es types [] s core → EachBinder B core
 kept_binders B es types s core held said r =
     core_parts B (λ k. Unit {0}) (λ l. Unit {0}) (λ n. Unit {0}) es types
-    (body_of (EachBinder B) es held) (λ n e is. tt) (λ q u is. tt) (λ n h. tt) r tt said
+    (body_holds (EachBinder B) es held) (λ n e is. tt) (λ q u is. tt) (λ n h. tt) r tt said
 
 pub binders_are_kept : ReadCoresKeepBinders
-binders_are_kept p es types s core = kept_binders (Has p) es types s core
+binders_are_kept test es types s core = kept_binders (λ kind x. IsTrue (test kind x)) es types s core

@@ -15,8 +15,9 @@ use Rattle.lego_inference.specs.declared.entry.Entry.{Entry as Item}
 use Rattle.lego_inference.specs.Entries.{laws_entry, laws_entries}
 use Rattle.lego_inference.specs.Locals.{EachLeaf, IsOver}
 use Rattle.lego_inference.specs.Calls.{IsTermOver}
-use Rattle.lego_context.specs.Contexts.{Contents}
-use Rattle.lego_reading.specs.Parts.{BinderKind, EachPart}
+use Rattle.lego_context.specs.Contexts.{Contents, AreOverFronts}
+use Rattle.lego_inference.specs.Binders.{BinderKind, EachPart}
+use Rattle.lego_inference.proofs.PartLemmas.{parts_follow}
 use Rattle.lego_reading.specs.Written.{HasSmallLevels}
 use Rattle.lego_reading.specs.Universes.{is_place, variables_for, with_universes}
 use Rattle.lego_reading.proofs.EntryLemmas.{position-cons}
@@ -36,29 +37,18 @@ module _ (C : ℕ → Type 0) (n : ℕ) where
   parts_of_leaves (Const k) h b = h
   parts_of_leaves Prop h b = tt
   parts_of_leaves (Univ l) h b = (h, b)
-  parts_of_leaves (Pi x a r) h b = (tt, parts_of_leaves a h.0 (omega arith), parts_of_leaves r h.1 (omega arith))
-  parts_of_leaves (Lam x a r) h b = (tt, parts_of_leaves a h.0 (omega arith), parts_of_leaves r h.1 (omega arith))
+  parts_of_leaves (Pi x a r) h b = (tt, parts_of_leaves a h.1 (omega arith), parts_of_leaves r h.2 (omega arith))
+  parts_of_leaves (Lam x a r) h b = (tt, parts_of_leaves a h.1 (omega arith), parts_of_leaves r h.2 (omega arith))
   parts_of_leaves (App k a r) h b = (parts_of_leaves a h.0 (omega arith), parts_of_leaves r h.1 (omega arith))
-  parts_of_leaves (Sigma x a r) h b = (tt, parts_of_leaves a h.0 (omega arith), parts_of_leaves r h.1 (omega arith))
+  parts_of_leaves (Sigma x a r) h b = (tt, parts_of_leaves a h.1 (omega arith), parts_of_leaves r h.2 (omega arith))
   parts_of_leaves (Pair x a r m o) h b =
-      (tt, parts_of_leaves a h.0 (omega arith), parts_of_leaves r h.1 (omega arith), parts_of_leaves m h.2 (omega arith), parts_of_leaves o h.3 (omega arith))
+      (tt, parts_of_leaves a h.1 (omega arith), parts_of_leaves r h.2 (omega arith), parts_of_leaves m h.3 (omega arith), parts_of_leaves o h.4 (omega arith))
   parts_of_leaves (Fst m) h b = parts_of_leaves m h b
   parts_of_leaves (Snd m) h b = parts_of_leaves m h b
-  parts_of_leaves (Let x a r) h b = (tt, parts_of_leaves a h.0 (omega arith), parts_of_leaves r h.1 (omega arith))
+  parts_of_leaves (Let x a r) h b = (tt, parts_of_leaves a h.1 (omega arith), parts_of_leaves r h.2 (omega arith))
 
   leaves_of_parts : (t : Core) → EachPart AnyBinder C (IsHeldLevel n) t → EachLeaf C (λ l. l.plus ≤ 1000000) t
-  leaves_of_parts (Var i) h = tt
-  leaves_of_parts (Const k) h = h
-  leaves_of_parts Prop h = tt
-  leaves_of_parts (Univ l) h = h.0
-  leaves_of_parts (Pi x a r) h = (leaves_of_parts a h.1, leaves_of_parts r h.2)
-  leaves_of_parts (Lam x a r) h = (leaves_of_parts a h.1, leaves_of_parts r h.2)
-  leaves_of_parts (App k a r) h = (leaves_of_parts a h.0, leaves_of_parts r h.1)
-  leaves_of_parts (Sigma x a r) h = (leaves_of_parts a h.1, leaves_of_parts r h.2)
-  leaves_of_parts (Pair x a r m o) h = (leaves_of_parts a h.1, leaves_of_parts r h.2, leaves_of_parts m h.3, leaves_of_parts o h.4)
-  leaves_of_parts (Fst m) h = leaves_of_parts m h
-  leaves_of_parts (Snd m) h = leaves_of_parts m h
-  leaves_of_parts (Let x a r) h = (leaves_of_parts a h.1, leaves_of_parts r h.2)
+  leaves_of_parts t h = parts_follow (λ kind x i. i) (λ k i. i) (λ l i. i.0) t h
 
   bound_of_parts : (t : Core) → EachPart AnyBinder C (IsHeldLevel n) t → levels_bound t ≤ n
   bound_of_parts (Var i) h = omega arith
@@ -86,22 +76,6 @@ found (e ∷ es) (suc at) k h =
       | false ↦ λ i. found es at k i
     ] h
 
--- the leaves of a term, where more constants are allowed
-module _ (C D : ℕ → Type 0) (L : Level → Type 0) (more : (k : ℕ) → C k → D k) where
-  more_leaves : (t : Core) → EachLeaf C L t → EachLeaf D L t
-  more_leaves (Var i) h = tt
-  more_leaves (Const k) h = more k h
-  more_leaves Prop h = tt
-  more_leaves (Univ l) h = h
-  more_leaves (Pi x a r) h = (more_leaves a h.0, more_leaves r h.1)
-  more_leaves (Lam x a r) h = (more_leaves a h.0, more_leaves r h.1)
-  more_leaves (App k a r) h = (more_leaves a h.0, more_leaves r h.1)
-  more_leaves (Sigma x a r) h = (more_leaves a h.0, more_leaves r h.1)
-  more_leaves (Pair x a r m o) h = (more_leaves a h.0, more_leaves r h.1, more_leaves m h.2, more_leaves o h.3)
-  more_leaves (Fst m) h = more_leaves m h
-  more_leaves (Snd m) h = more_leaves m h
-  more_leaves (Let x a r) h = (more_leaves a h.0, more_leaves r h.1)
-
 -- an entry that has the body
 record HasBody (es : List Item) (t : Core) : Type 0 where
   at : ℕ
@@ -116,10 +90,6 @@ body_at (x ∷ es) k t e =
       | true ↦ λ is. record { at = 0; entry = x; there = refl; body = is }
       | false ↦ λ is. (let r = body_at es k t is in record { at = suc r.at; entry = r.entry; there = r.there; body = r.body })
     ] e
-
--- each body is over the entries before its own
-abbrev pub AreBodiesOver : Contents → Type 0
-AreBodiesOver c = (at : ℕ) (e : Item) → slice_get c.entries at ≡ Some e → IfSome e.body (λ m. IsTermOver (take at c.entries) [] c.levels m)
 
 some_body : (P : Core → Type 0) (o : Option Core) (t : Core) → IfSome o P → o ≡ Some t → P t
 some_body P None t h e = cc
@@ -163,17 +133,16 @@ variable_below next ps p u e = by_place (position (is_place p) ps) refl e
     by_place (Some i) a h = let l = position_below (is_place p) ps i a in let is : next + i ≡ u = cc in omega arith
 
 module _ (c : Contents) where
-  each_body : (n : ℕ) → c.levels ≤ n → AreBodiesOver c → (k : ℕ) (t : Core) → core_bodies (laws_entries c.entries) k ≡ Some t
+  each_body : (n : ℕ) → c.levels ≤ n → AreOverFronts c → (k : ℕ) (t : Core) → core_bodies (laws_entries c.entries) k ≡ Some t
       → EachPart AnyBinder (λ j. IsSome (entry_of (laws_entries c.entries) j)) (IsHeldLevel n) t
   each_body n more over k t e =
       let found_body = body_at c.entries k t e in
-      let is_over : IsTermOver (take found_body.at c.entries) [] c.levels t = some_body _ found_body.entry.body t (over found_body.at found_body.entry found_body.there) found_body.body in
+      let is_over : IsTermOver (take found_body.at c.entries) [] c.levels t = some_body _ found_body.entry.body t (over found_body.at found_body.entry found_body.there).body found_body.body in
       parts_of_leaves (λ j. IsSome (entry_of (laws_entries c.entries) j)) n t
-      (more_leaves (λ j. IsSome (entry_of (laws_entries (take found_body.at c.entries)) j)) (λ j. IsSome (entry_of (laws_entries c.entries) j)) (λ l. l.plus ≤ 1000000)
-      (λ j h. found c.entries found_body.at j h) t is_over.names)
+      (parts_follow (λ kind x i. i) (λ j h. found c.entries found_body.at j h) (λ l i. i) t is_over.names)
       (let l = is_over.levels_within in omega arith)
 
-  core_is_over : (ps : List Place) (s : Written) (core : Core) → AreBodiesOver c → HasSmallLevels s
+  core_is_over : (ps : List Place) (s : Written) (core : Core) → AreOverFronts c → HasSmallLevels s
       → ReadsExplicitly (laws_entries c.entries) (variables_for c.levels ps) [] s core → loose core ≤ 0
       → IsOver (laws_entries c.entries) [] (c.levels + length ps) core
   core_is_over ps s core over small r closed =
@@ -185,7 +154,7 @@ module _ (c : Contents) where
           (λ m e is. named_entry es m e is) (λ p u is. (omega arith, variable_below c.levels ps p u is)) (λ m h. (h, omega arith)) r tt small in
       record { names = leaves_of_parts C n core parts; variables = closed; levels_within = bound_of_parts C n core parts }
 
-pub core_over : (c : Contents) (ps : List Place) (s : Written) (core : Core) → AreBodiesOver c → HasSmallLevels s
+pub core_over : (c : Contents) (ps : List Place) (s : Written) (core : Core) → AreOverFronts c → HasSmallLevels s
     → ReadsExplicitly (laws_entries c.entries) (variables_for c.levels ps) [] s core → loose core ≤ 0
     → IsTermOver (with_universes c ps).entries [] (with_universes c ps).levels core
 core_over c ps s core over small r closed =

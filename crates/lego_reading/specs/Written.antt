@@ -6,7 +6,7 @@ use Rattle.lego_term.specs.declared.binder.Mark.TheVariants.{Plain}
 use Rattle.lego_grammar.specs.declared.surface.Kind.{Kind}
 use Rattle.lego_grammar.specs.Reading.{binder}
 use Rattle.lego_grammar.specs.Written.{Written, TypeAt, Bind, Local, Apply, Pair, Project}
-use Rattle.lego_reading.specs.Parts.{BinderKind, OfFunction, OfPair, OfLocal}
+use Rattle.lego_inference.specs.Binders.{BinderKind, OfFunction, OfPair, OfLocal}
 
 abbrev pub kind_of : Kind → BinderKind
 kind_of Kind.Lambda = OfFunction
