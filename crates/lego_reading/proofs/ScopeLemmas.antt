@@ -1,5 +1,7 @@
 -- The local variables in scope, as the code keeps them.
 use Rattle.std.proofs.Common.{◌≡◌, ℕ, zero, suc, ◌+◌, ◌-◌, ◌<◌, ◌≤◌, Bool, true, false, if◌then◌else◌, List, [], ◌∷◌, ◌++◌, length, map, reverse, take, drop, get_or, slice_get, Option, Some, None, option_map, refl, sym, ap, ◌∙◌, subst, arith}
+use Rattle.std.proofs.lemmas.List.{map-append, reverse-append, reverse-reverse, length-reverse, length-drop, take-append-drop, drop-map}
+use Rattle.std.proofs.Math.Seq.{drop-append_seam}
 use Rattle.lego_grammar.specs.Scopes.{LocalVariable, Scope, is_named, local_name, local_named}
 
 -- no variable of the first ones has the name
@@ -51,3 +53,32 @@ named_within (y ∷ scope) n i e =
     later : (o : Option ℕ) → local_named scope n ≡ o → option_map suc o ≡ Some i → suc i ≤ suc (length scope)
     later None p h = cc
     later (Some j) p h = let le = named_within scope n j p in let is : suc j ≡ i = cc in omega arith
+
+-- lists whose end is the innermost variable
+module _ {X Y : Type 0} (f : X → Y) where
+  map-reverse : (xs : List X) → map f (reverse xs) ≡ reverse (map f xs)
+  map-reverse [] = refl
+  map-reverse (x ∷ xs) =
+      ap (map f) (reverse-append (x ∷ []) xs) ∙ map-append f (reverse xs) (x ∷ []) ∙ ap (λ ys. ys ++ f x ∷ []) (map-reverse xs) ∙ sym (reverse-append (f x ∷ []) (map f xs))
+
+  pub reversed_twice : (xs : List X) → reverse (map f (reverse xs)) ≡ map f xs
+  reversed_twice xs = ap reverse (map-reverse xs) ∙ reverse-reverse (map f xs)
+
+  -- without the last ones
+  pub left_behind : (xs : List X) (k : ℕ) → k ≤ length xs → map f (reverse (take (length xs - k) xs)) ≡ drop k (map f (reverse xs))
+  left_behind xs k le = ap (map f) (sym dropped) ∙ sym (drop-map f k (reverse xs))
+    where
+      front : List X
+      front = take (length xs - k) xs
+      back : List X
+      back = drop (length xs - k) xs
+      count : length (reverse back) ≡ k
+      count = let a = length-reverse back in let b = length-drop (length xs - k) xs in omega arith
+      dropped : drop k (reverse xs) ≡ reverse front
+      dropped =
+          ap (drop k) (ap reverse (sym (take-append-drop (length xs - k) xs)) ∙ reverse-append front back)
+          ∙ ap (λ n. drop n (reverse back ++ reverse front)) (sym count) ∙ drop-append_seam (reverse back) (reverse front)
+
+pub map-map : {X Y Z : Type 0} (f : X → Y) (g : Y → Z) (xs : List X) → map g (map f xs) ≡ map (λ x. g (f x)) xs
+map-map f g [] = refl
+map-map f g (x ∷ xs) = ap (λ ys. g (f x) ∷ ys) (map-map f g xs)
