@@ -18,8 +18,7 @@ inner_scope scope [] = scope
 inner_scope scope (n ∷ names) = inner_scope (LocalVariable.Bound (Some n) ∷ scope) names
 
 -- the cores of a domain, one under each front of the names
-abbrev pub AreDomains : List Entry → TypeVariables → Written → Scope → List ℕ → List Core → Type 0
-AreDomains es types s scope [] [] = Unit {0}
-AreDomains es types s scope (n ∷ names) (a ∷ cores) =
-    IsReading es types scope s a × AreDomains es types s (LocalVariable.Bound (Some n) ∷ scope) names cores
-AreDomains es types s scope _ _ = ⊥
+pub data AreDomains (es : List Entry) (types : TypeVariables) (s : Written) : Scope → List ℕ → List Core → Type 0 where
+  none : {scope : Scope} → AreDomains es types s scope [] []
+  some : {scope : Scope} {n : ℕ} {names : List ℕ} {a : Core} {cores : List Core} → IsReading es types scope s a
+      → AreDomains es types s (LocalVariable.Bound (Some n) ∷ scope) names cores → AreDomains es types s scope (n ∷ names) (a ∷ cores)

@@ -9,6 +9,6 @@ use Rattle.lego_reading.proofs.reading.enclosed.Given as goal
 
 abbrev pub invariant-loop-inside : goal.invariant-loop-inside
 invariant-loop-inside l =
-    (es : List Entry) (types : TypeVariables) (limit : ℕ) (outer : Scope) (s t : Written) → AreDomains es types s outer l.head.names.now l.domains
+    (es : List Entry) (types : TypeVariables) (outer : Scope) (s t : Written) → AreDomains es types s outer l.head.names.now l.domains
     → IsReading es types (inner_scope outer l.head.names.now) t l.fn.body
-    → Closes {es} {types} {s} {limit} {l.head.kind} {l.head.mark} {t} outer l.head.names.now (length l.head.names.now - l.inside) l.closed
+    → Closes es types l.head.kind l.head.mark s t outer l.head.names.now (length l.head.names.now - l.inside) l.closed
