@@ -58,5 +58,5 @@ module _ (es : List Entry) (limit : ℕ) (scope : Scope) (c : Core) where
   annotates_end t end h none same form is =
       subst (Annotates es scope c) is (Annotates.head_form none (subst (λ z. HeadForm (core_bodies es) z end) same form))
 
-pub annotated_at : {es : List Entry} {limit : ℕ} {a b : Scope} {c : Core} {r : Result SigmaType ReadFault} → b ≡ a → IsAnnotated es limit b c r → IsAnnotated es limit a c r
-annotated_at {es} {limit} {c = c} {r = r} e h = subst (λ z. IsAnnotated es limit z c r) e h
+pub annotated_at : (es : List Entry) (limit : ℕ) {a b : Scope} (c : Core) (r : Result SigmaType ReadFault) → b ≡ a → IsAnnotated es limit b c r → IsAnnotated es limit a c r
+annotated_at es limit c r e h = subst (λ z. IsAnnotated es limit z c r) e h

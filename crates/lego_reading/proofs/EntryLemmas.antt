@@ -27,17 +27,17 @@ position-cons p x xs = by_test (p x) refl
 some_is : {X : Type 0} {t u : X} → Some t ≡ Some u → t ≡ u
 some_is e = cc
 
-before : {o : Option ℕ} {i : ℕ} → option_map suc o ≡ Some (suc i) → o ≡ Some i
-before {None} e = cc
-before {Some j} {i} e = let same : suc j ≡ suc i = cc in let one : j ≡ i = omega arith in ap Some one
+before : (o : Option ℕ) (i : ℕ) → option_map suc o ≡ Some (suc i) → o ≡ Some i
+before None i e = cc
+before (Some j) i e = let same : suc j ≡ suc i = cc in let one : j ≡ i = omega arith in ap Some one
 
-not_zero : {o : Option ℕ} → option_map suc o ≡ Some zero → ⊥
-not_zero {None} e = cc
-not_zero {Some j} e = let same : suc j ≡ zero = cc in omega (arith, same)
+not_zero : (o : Option ℕ) → option_map suc o ≡ Some zero → ⊥
+not_zero None e = cc
+not_zero (Some j) e = let same : suc j ≡ zero = cc in omega (arith, same)
 
-none_before : {o : Option ℕ} → option_map suc o ≡ None → o ≡ None
-none_before {None} e = refl
-none_before {Some j} e = cc
+none_before : (o : Option ℕ) → option_map suc o ≡ None → o ≡ None
+none_before None e = refl
+none_before (Some j) e = cc
 
 pub entry_at : (es : List Item) (n i : ℕ) (e : Item) → position_of es n ≡ Some i → slice_get es i ≡ Some e → entry_named (laws_entries es) n ≡ Some (laws_entry e)
 entry_at [] n i e p at = cc
@@ -53,8 +53,8 @@ entry_at (x ∷ es) n i e p at =
     here zero h a = let same : x ≡ e = cc in ap (λ (z : Item). Some (laws_entry z)) same
     here (suc i) h a = let wrong : 0 ≡ suc i = cc in omega (arith, wrong)
     later : (i : ℕ) → option_map suc (position_of es n) ≡ Some i → slice_get (x ∷ es) i ≡ Some e → entry_named (laws_entries es) n ≡ Some (laws_entry e)
-    later zero h a = absurd (not_zero h)
-    later (suc i) h a = entry_at es n i e (before h) a
+    later zero h a = absurd (not_zero (position_of es n) h)
+    later (suc i) h a = entry_at es n i e (before (position_of es n) i h) a
 
 pub no_entry : (es : List Item) (n : ℕ) → position_of es n ≡ None → entry_named (laws_entries es) n ≡ None
 no_entry [] n p = refl
@@ -63,7 +63,7 @@ no_entry (x ∷ es) n p =
     elim (context.is_named n x) as (λ b. (if b then Some 0 else option_map suc (position_of es n)) ≡ None
       → (if b then Some (laws_entry x) else entry_named (laws_entries es) n) ≡ None) [
       | true ↦ λ h. cc
-      | false ↦ λ h. no_entry es n (none_before h)
+      | false ↦ λ h. no_entry es n (none_before (position_of es n) h)
     ] q
 
 -- where a name is found, there is an entry
@@ -80,5 +80,5 @@ is_there (x ∷ es) n i p none =
     here zero h a = cc
     here (suc i) h a = let wrong : 0 ≡ suc i = cc in omega (arith, wrong)
     later : (i : ℕ) → option_map suc (position_of es n) ≡ Some i → slice_get (x ∷ es) i ≡ None → ⊥
-    later zero h a = not_zero h
-    later (suc i) h a = is_there es n i (before h) a
+    later zero h a = not_zero (position_of es n) h
+    later (suc i) h a = is_there es n i (before (position_of es n) i h) a

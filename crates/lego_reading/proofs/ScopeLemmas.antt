@@ -16,12 +16,12 @@ none_more (y ∷ scope) n (suc i) x at other none =
     elim (is_named n (local_name y)) as (λ b. (if b then Some 0 else option_map suc (local_named (take i scope) n)) ≡ None
       → (if b then Some 0 else option_map suc (local_named (take (suc i) scope) n)) ≡ None) [
       | true ↦ λ h. h
-      | false ↦ λ h. ap (option_map suc) (none_more scope n i x at other (unmapped h))
+      | false ↦ λ h. ap (option_map suc) (none_more scope n i x at other (unmapped (local_named (take i scope) n) h))
     ] none
   where
-    unmapped : {o : Option ℕ} → option_map suc o ≡ None → o ≡ None
-    unmapped {None} e = refl
-    unmapped {Some j} e = cc
+    unmapped : (o : Option ℕ) → option_map suc o ≡ None → o ≡ None
+    unmapped None e = refl
+    unmapped (Some j) e = cc
 
 pub first_named : (scope : Scope) (n i : ℕ) (x : LocalVariable) → slice_get scope i ≡ Some x → is_named n (local_name x) ≡ true
     → local_named (take i scope) n ≡ None → local_named scope n ≡ Some i
@@ -34,12 +34,12 @@ first_named (y ∷ scope) n (suc i) x at is none =
     elim (is_named n (local_name y)) as (λ b. (if b then Some 0 else option_map suc (local_named (take i scope) n)) ≡ None
       → (if b then Some 0 else option_map suc (local_named scope n)) ≡ Some (suc i)) [
       | true ↦ λ h. cc
-      | false ↦ λ h. ap (option_map suc) (first_named scope n i x at is (unmapped h))
+      | false ↦ λ h. ap (option_map suc) (first_named scope n i x at is (unmapped (local_named (take i scope) n) h))
     ] none
   where
-    unmapped : {o : Option ℕ} → option_map suc o ≡ None → o ≡ None
-    unmapped {None} e = refl
-    unmapped {Some j} e = cc
+    unmapped : (o : Option ℕ) → option_map suc o ≡ None → o ≡ None
+    unmapped None e = refl
+    unmapped (Some j) e = cc
 
 -- a local variable that is found is in scope
 pub named_within : (scope : Scope) (n i : ℕ) → local_named scope n ≡ Some i → suc i ≤ length scope

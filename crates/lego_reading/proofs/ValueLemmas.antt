@@ -28,7 +28,7 @@ eq_false : (a b : ℕ) → (a ≡ b → ⊥) → nat_eq a b ≡ false
 eq_false a b h = grind (arith, nat_tests)
 
 -- two liftings are one
-lift_var : (k n m i : ℕ) → m ≡ k + n → lift m 1 (lift k n (Var i)) ≡ lift k (suc n) (Var i)
+lift_var : (k n m i : ℕ) → m ≡ k + n → ◌≡◌ {A = Core} (lift m 1 (lift k n (Var i))) (lift k (suc n) (Var i))
 lift_var k n m i is =
     elim (nat_lt i k) as (λ b. nat_lt i k ≡ b → ◌≡◌ {A = Core} (lift m 1 (Var (if b then i else i + n))) (Var (if b then i else i + suc n))) [
       | true ↦ λ e. (let below : i < k = grind (arith, nat_tests) in rw (lt_true i m (omega arith)) refl)

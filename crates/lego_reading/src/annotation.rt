@@ -52,9 +52,10 @@ fn reduced(setting: &Setting<'_>, scope: &Scope, ty: &Term) -> Result<SigmaType,
     let end = head_form(setting, scope, ty, &with_values)?;
     match end.view() {
         Node::Sigma(binder, first, second) => shared(binder, first, second),
-        _ => Err(ReadFault::NotSigma {
-            got: seen(scope, ty)?,
-        }),
+        _ => {
+            let got = seen(scope, ty)?;
+            Err(ReadFault::NotSigma { got })
+        }
     }
 }
 
@@ -75,9 +76,10 @@ fn head_form(
         setting.limit,
     ) {
         Ok(reduced) => Ok(reduced.term),
-        Err(ReduceFault::Budget) => Err(ReadFault::Budget {
-            left: seen(scope, with_values)?,
-        }),
+        Err(ReduceFault::Budget) => {
+            let left = seen(scope, with_values)?;
+            Err(ReadFault::Budget { left })
+        }
         Err(ReduceFault::TooLarge { size, depth }) => Err(ReadFault::TooLarge { size, depth }),
         Err(ReduceFault::Memory) => Err(ReadFault::Memory),
     }

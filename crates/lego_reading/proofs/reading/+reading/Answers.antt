@@ -4,6 +4,7 @@ use Rattle.lego_term.specs.declared.binder.Mark.TheVariants.{Plain}
 use Rattle.lego_term.specs.Trees.{Core, Pair, Let}
 use Rattle.lego_grammar.specs.Reading.{binder}
 use Rattle.lego_grammar.specs.Scopes.{LocalVariable, Scope}
+use Rattle.lego_inference.specs.Entries.{laws_entries}
 use Rattle.lego_reading.specs.private.Variables.{AreOver}
 use Rattle.lego_reading.proofs.AnnotationLemmas.{annotated_at}
 use Rattle.lego_reading.specs.private.Parts.{Stops}
@@ -41,7 +42,7 @@ nameless-pop-requires t c = let k = ap (λ (z : Scope). length z) (c.in_ok-body.
 
 pub nameless-returns-clause-core : goal.nameless-returns-clause-core
 nameless-returns-clause-core t c =
-    nameless_is c.bound.result c.in_ok-domain.ensures.core
+    nameless_is c.args.setting.now.limit c.args.head.now.kind c.args.head.now.mark c.bound.result c.in_ok-domain.ensures.core
     (reading_at (c.in_ok-push.ensures ∙ ap (λ (z : Scope). LocalVariable.Bound None ∷ z) c.in_ok-domain.ensures.scope) c.in_ok-body.ensures.core) c.bound.ensures
 
 pub nameless-returns-clause-scope : goal.nameless-returns-clause-scope
@@ -81,7 +82,7 @@ local_definition-pop-requires t c = let k = ap (λ (z : Scope). length z) (c.in_
 
 pub local_definition-returns-clause-core : goal.local_definition-returns-clause-core
 local_definition-returns-clause-core t c =
-    local_is c.made.result c.in_ok-value.ensures.core (reading_at (c.in_ok-push.ensures ∙ ap (λ (z : Core). LocalVariable.Defined c.args.name z ∷ c.core_of.new.scope) c.in_ok-shared.ensures.same ∙ ap (λ (z : Scope). LocalVariable.Defined c.args.name c.in_ok-value.value ∷ z) c.in_ok-value.ensures.scope) c.in_ok-body.ensures.core)
+    local_is c.args.setting.now.limit c.made.result c.in_ok-value.ensures.core (reading_at (c.in_ok-push.ensures ∙ ap (λ (z : Core). LocalVariable.Defined c.args.name z ∷ c.core_of.new.scope) c.in_ok-shared.ensures.same ∙ ap (λ (z : Scope). LocalVariable.Defined c.args.name c.in_ok-value.value ∷ z) c.in_ok-value.ensures.scope) c.in_ok-body.ensures.core)
     (c.made.ensures (Let (binder (Some c.args.name) Plain) c.in_ok-value.value c.in_ok-body.body) c.local.ensures)
 
 pub local_definition-returns-clause-scope : goal.local_definition-returns-clause-scope
@@ -108,7 +109,7 @@ pairing-annotation-requires-clause-within t c = let k = ap (λ (z : Scope). leng
 pub pairing-returns-in_err-sigma-clause-core : goal.pairing-returns-in_err-sigma-clause-core
 pairing-returns-in_err-sigma-clause-core t c =
     let e = err_from_is_err_and c.from_residual-in_err-sigma.result c.from_residual-in_err-sigma.ensures.1 in
-    rw (e.1, e.2) (annotation_stops c.in_ok-ty.ensures.core (annotated_at {r = Err c.in_err-sigma.field-0.0} c.in_ok-ty.ensures.scope c.in_err-sigma.ensures))
+    rw (e.1, e.2) (annotation_stops c.in_ok-ty.ensures.core (annotated_at (laws_entries c.args.setting.now.context.now.entries) c.args.setting.now.limit c.in_ok-ty.ty (Err c.in_err-sigma.field-0.0) c.in_ok-ty.ensures.scope c.in_err-sigma.ensures))
 
 pub pairing-core_of-requires-2 : goal.pairing-core_of-requires-2
 pairing-core_of-requires-2 t c = let falls = c.decreases in (omega arith, ready_in c.in_ok-ty.ensures.scope (ready_first c.requires))
@@ -116,7 +117,7 @@ pairing-core_of-requires-2 t c = let falls = c.decreases in (omega arith, ready_
 pub pairing-returns-in_err-first-clause-core : goal.pairing-returns-in_err-first-clause-core
 pairing-returns-in_err-first-clause-core t c =
     let e = err_from_is_err_and c.from_residual-in_err-first.result c.from_residual-in_err-first.ensures.1 in
-    rw (e.1, e.2) (first_stops c.in_ok-ty.ensures.core (annotated_at {r = Ok c.in_ok-sigma.sigma} c.in_ok-ty.ensures.scope c.in_ok-sigma.ensures).0
+    rw (e.1, e.2) (first_stops c.in_ok-ty.ensures.core (annotated_at (laws_entries c.args.setting.now.context.now.entries) c.args.setting.now.limit c.in_ok-ty.ty (Ok c.in_ok-sigma.sigma) c.in_ok-ty.ensures.scope c.in_ok-sigma.ensures).0
       (stops_at c.in_ok-ty.ensures.scope c.in_err-first.ensures.core))
 
 pub pairing-core_of-requires-3 : goal.pairing-core_of-requires-3
@@ -126,14 +127,14 @@ pairing-core_of-requires-3 t c =
 pub pairing-returns-in_err-second-clause-core : goal.pairing-returns-in_err-second-clause-core
 pairing-returns-in_err-second-clause-core t c =
     let e = err_from_is_err_and c.from_residual-in_err-second.result c.from_residual-in_err-second.ensures.1 in
-    rw (e.1, e.2) (second_stops c.in_ok-ty.ensures.core (annotated_at {r = Ok c.in_ok-sigma.sigma} c.in_ok-ty.ensures.scope c.in_ok-sigma.ensures).0
+    rw (e.1, e.2) (second_stops c.in_ok-ty.ensures.core (annotated_at (laws_entries c.args.setting.now.context.now.entries) c.args.setting.now.limit c.in_ok-ty.ty (Ok c.in_ok-sigma.sigma) c.in_ok-ty.ensures.scope c.in_ok-sigma.ensures).0
       (reading_at c.in_ok-ty.ensures.scope c.in_ok-first.ensures.core)
       (stops_at (c.in_ok-first.ensures.scope ∙ c.in_ok-ty.ensures.scope) c.in_err-second.ensures.core))
 
 pub pairing-returns-clause-core : goal.pairing-returns-clause-core
 pairing-returns-clause-core t c =
-    let k = annotated_at {r = Ok c.in_ok-sigma.sigma} c.in_ok-ty.ensures.scope c.in_ok-sigma.ensures in
-    pair_is c.made.result c.in_ok-ty.ensures.core k.0 k.1 (reading_at c.in_ok-ty.ensures.scope c.in_ok-first.ensures.core)
+    let k = annotated_at (laws_entries c.args.setting.now.context.now.entries) c.args.setting.now.limit c.in_ok-ty.ty (Ok c.in_ok-sigma.sigma) c.in_ok-ty.ensures.scope c.in_ok-sigma.ensures in
+    pair_is c.args.setting.now.limit c.made.result c.in_ok-ty.ensures.core k.0 k.1 (reading_at c.in_ok-ty.ensures.scope c.in_ok-first.ensures.core)
     (reading_at (c.in_ok-first.ensures.scope ∙ c.in_ok-ty.ensures.scope) c.in_ok-second.ensures.core)
     (c.made.ensures (Pair c.in_ok-sigma.sigma.binder c.in_ok-sigma.sigma.first c.in_ok-sigma.sigma.second c.in_ok-first.first c.in_ok-second.second) c.pair.ensures)
 

@@ -9,4 +9,4 @@ use Rattle.lego_reading.proofs.reading.projections.Given as goal
 abbrev pub invariant-loop-part : goal.invariant-loop-part
 invariant-loop-part l =
     (es : List Entry) (types : TypeVariables) (scope : Scope) (s : Written) → IsReading es types scope s l.fn.of
-    → IsReading es types scope (projected s (take l.part-index l.part-items)) l.projected
+    → IsReading es types scope (projected s (take l.part-index l.parts)) l.projected
