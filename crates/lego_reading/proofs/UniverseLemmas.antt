@@ -100,3 +100,35 @@ pub all_held : (n : ℕ) (held ps : List Place) → AllByRecursion (λ p. IsSome
 all_held n held [] = tt
 all_held n held (p ∷ ps) =
     (position_found (is_place p) n (with_places (with_place held p) ps) (any_stays (is_place p) (with_place held p) ps (taken held p)), all_held n (with_place held p) ps)
+
+-- a place that is found is held, and one that is not is new
+found_any : (q : Place → Bool) (ps : List Place) → list_any q ps ≡ false → position q ps ≡ None
+found_any q [] h = refl
+found_any q (p ∷ ps) h =
+    position-cons q p ps
+    ∙ elim (q p) as (λ b. (b || list_any q ps) ≡ false → (if b then Some 0 else option_map suc (position q ps)) ≡ None) [
+      | true ↦ λ e. cc
+      | false ↦ λ e. ap (option_map suc) (found_any q ps e)
+    ] h
+
+none_any : (q : Place → Bool) (ps : List Place) → position q ps ≡ None → list_any q ps ≡ false
+none_any q [] h = refl
+none_any q (p ∷ ps) h =
+    elim (q p) as (λ b. (if b then Some 0 else option_map suc (position q ps)) ≡ None → (b || list_any q ps) ≡ false) [
+      | true ↦ λ e. cc
+      | false ↦ λ e. none_any q ps (unmapped (position q ps) e)
+    ] (sym (position-cons q p ps) ∙ h)
+  where
+    unmapped : (o : Option ℕ) → option_map suc o ≡ None → o ≡ None
+    unmapped None e = refl
+    unmapped (Some j) e = cc
+
+pub held_place : (held : List Place) (p : Place) (i : ℕ) → position (is_place p) held ≡ Some i → held ≡ with_place held p
+held_place held p i e = by_test (list_any (is_place p) held) refl
+  where
+    by_test : (b : Bool) → list_any (is_place p) held ≡ b → held ≡ (if b then held else held ++ p ∷ [])
+    by_test true is = refl
+    by_test false is = let none = found_any (is_place p) held is in let wrong : ◌≡◌ {A = Option ℕ} (Some i) None = sym e ∙ none in cc
+
+pub new_place : (held : List Place) (p : Place) → position (is_place p) held ≡ None → held ++ p ∷ [] ≡ with_place held p
+new_place held p e = rw (none_any (is_place p) held e) refl

@@ -5,6 +5,7 @@ ghost use Rattle.lego_reading.specs.Universes.{variables_for};
 ghost use Rattle.lego_reading.specs.private.Parts.{ReadsAs};
 
 use crate::fault::{ReadFault, made};
+use crate::places::place_of;
 use crate::scope::Scope;
 use crate::setting::Setting;
 use lego_base::Place;
@@ -50,7 +51,7 @@ pub(crate) fn any_type(
     requires room { setting.now.context.now.levels + length setting.now.places.now ≤ 1048576 }
     ensures { ReadsAs setting.now.context.now setting.now.places.now setting.now.limit scope.now (AnyType place) result }
 {
-    let Some(at) = setting.places.iter().position(|held| place == *held) else {
+    let Some(at) = place_of(setting.places, place) else {
         unreachable!()
     };
     let level = Level {

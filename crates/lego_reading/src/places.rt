@@ -1,7 +1,7 @@
 //! The places of the written `Type`s.
-ghost use Rattle.std.specs.Prelude.{◌≡◌, OnOk};
+ghost use Rattle.std.specs.Prelude.{◌≡◌, position, OnOk};
 ghost use Rattle.lego_grammar.specs.Surface.{written};
-ghost use Rattle.lego_reading.specs.Universes.{type_places, with_place, with_places};
+ghost use Rattle.lego_reading.specs.Universes.{type_places, is_place, with_place, with_places};
 
 use lego_base::Place;
 use lego_grammar::Surface;
@@ -46,14 +46,22 @@ pub(crate) fn gather(s: &Surface, places: &mut Vec<Place>) -> Result<(), AllocEr
 }
 
 /// Adds a place, where it is not there yet.
+#[tactic(auto, using(crate::proofs::UniverseLemmas::held_place, crate::proofs::UniverseLemmas::new_place))]
 fn hold(place: Place, places: &mut Vec<Place>) -> Result<(), AllocError>
     ensures { OnOk result (places.new.items ≡ with_place places.old.items place) }
 {
-    if places.iter().any(|held| place == *held) {
+    if place_of(places, place).is_some() {
         return Ok(());
     }
     let Ok(()) = places.push(place) else {
         return Err(AllocError);
     };
     Ok(())
+}
+
+/// Where a place stands among others.
+pub(crate) fn place_of(places: &[Place], place: Place) -> Option<usize>
+    ensures { result ≡ position (is_place place) places.now }
+{
+    places.iter().position(|held| place == *held)
 }

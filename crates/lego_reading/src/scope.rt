@@ -95,6 +95,7 @@ impl Scope {
     }
 
     /// Leaves so many of the innermost ones.
+    #[tactic(auto, using(crate::proofs::ScopeLemmas::left_behind))]
     pub(crate) fn leave(&mut self, count: usize)
         requires { count ≤ length self.old }
         ensures { self.new ≡ drop count self.old }
@@ -103,6 +104,7 @@ impl Scope {
     }
 
     /// The innermost variable of the name, by the number of variables inside it.
+    #[tactic(auto, using(crate::proofs::ScopeLemmas::none_more, crate::proofs::ScopeLemmas::first_named))]
     pub(crate) fn position(&self, name: u32) -> Option<usize>
         ensures { result ≡ local_named self.now name }
     {
