@@ -28,10 +28,22 @@ drop-inner scope (n ∷ names) =
     one_more (length names) (inner_scope (LocalVariable.Bound (Some n) ∷ scope) names)
     ∙ ap (λ z. drop 1 z) (drop-inner (LocalVariable.Bound (Some n) ∷ scope) names)
 
+whole_binder : (kind : Kind) (mark : Mark) (s t : Written) (names : List ℕ) → names ≢ [] → under_first kind mark names s t ≡ Written.Bind kind mark names s t
+whole_binder kind mark s t [] h = absurd (h refl)
+whole_binder kind mark s t (n ∷ names) h = refl
+
 -- the turns of a loop that closes a binder name by name from the innermost
 abbrev pub Closes : List Entry → TypeVariables → Kind → Mark → Written → Written → Scope → List ℕ → ℕ → Core → Type 0
 Closes es types kind mark s t outer names left made =
     IsReading es types (inner_scope outer (take left names)) (under_first kind mark (drop left names) s t) made
+
+pub close_start : (es : List Entry) (types : TypeVariables) (kind : Kind) (mark : Mark) (s t : Written) (outer : Scope) (names : List ℕ) (left : ℕ) (body : Core)
+    → left ≡ length names → IsReading es types (inner_scope outer names) t body → Closes es types kind mark s t outer names left body
+close_start es types kind mark s t outer names left body is r =
+    let all : take left names ≡ names = take_all left names (omega arith) in
+    let none : drop left names ≡ [] = drop_all left names (omega arith) in
+    subst (λ z. IsReading es types (inner_scope outer z) (under_first kind mark (drop left names) s t) body) (sym all)
+    (subst (λ z. IsReading es types (inner_scope outer names) (under_first kind mark z s t) body) (sym none) r)
 
 module _ {es : List Entry} {types : TypeVariables} {s : Written} where
   pub domains_push : {scope : Scope} {names : List ℕ} {cores : List Core} (n : ℕ) (a : Core)
@@ -68,15 +80,11 @@ module _ {es : List Entry} {types : TypeVariables} {s : Written} where
     close_one zero e d result l (AreDomains.some {names = names} q h) r m = named_bind_is limit kind mark names t result q r m
     close_one (suc at) e d result l (AreDomains.some q h) r m = close_one at e d result (omega arith) h r m
 
-    whole_binder : (names : List ℕ) → names ≢ [] → under_first kind mark names s t ≡ Written.Bind kind mark names s t
-    whole_binder [] h = absurd (h refl)
-    whole_binder (n ∷ names) h = refl
-
     pub climb_front : {scope : Scope} {names : List ℕ} {cores : List Core} (at : ℕ) (f : ReadFault) → names ≢ [] → AreDomains es types s scope names cores
         → Stops es types limit (inner_scope scope (take at names)) (under_first kind mark (drop at names) s t) f
         → Stops es types limit scope (Written.Bind kind mark names s t) f
     climb_front {scope} {names} at f some h stops =
-        subst (λ z. Stops es types limit scope z f) (ap (λ ns. under_first kind mark ns s t) (take-append-drop at names) ∙ whole_binder names some)
+        subst (λ z. Stops es types limit scope z f) (ap (λ ns. under_first kind mark ns s t) (take-append-drop at names) ∙ whole_binder kind mark s t names some)
         (climb (drop at names) f (domains_take at h) stops)
 
     -- a domain that stops stops the binder
@@ -85,7 +93,7 @@ module _ {es : List Entry} {types : TypeVariables} {s : Written} where
         → Stops es types limit scope (Written.Bind kind mark names s t) f
     domain_halts {scope} names {front} i f l is h stops =
         subst (λ z. Stops es types limit scope z f)
-        (ap (λ ns. under_first kind mark ns s t) (ap (λ ns. ns ++ drop i names) is ∙ take-append-drop i names) ∙ whole_binder names some)
+        (ap (λ ns. under_first kind mark ns s t) (ap (λ ns. ns ++ drop i names) is ∙ take-append-drop i names) ∙ whole_binder kind mark s t names some)
         (climb (drop i names) f h (rest (drop i names) (let e = length-drop i names in omega arith)))
       where
         some : names ≢ []
@@ -98,17 +106,8 @@ module _ {es : List Entry} {types : TypeVariables} {s : Written} where
     pub body_halts : {scope : Scope} {names : List ℕ} {cores : List Core} (f : ReadFault) → names ≢ [] → AreDomains es types s scope names cores
         → Stops es types limit (inner_scope scope names) t f → Stops es types limit scope (Written.Bind kind mark names s t) f
     body_halts {scope} {names} f some h stops =
-        subst (λ z. Stops es types limit scope z f) (ap (λ ns. under_first kind mark ns s t) (append-nil names) ∙ whole_binder names some)
+        subst (λ z. Stops es types limit scope z f) (ap (λ ns. under_first kind mark ns s t) (append-nil names) ∙ whole_binder kind mark s t names some)
         (climb [] f h stops)
-
-    pub close_start : (outer : Scope) (names : List ℕ) (left : ℕ) (body : Core) → left ≡ length names
-        → IsReading es types (inner_scope outer names) t body
-        → IsReading es types (inner_scope outer (take left names)) (under_first kind mark (drop left names) s t) body
-    close_start outer names left body is r =
-        let all : take left names ≡ names = take_all left names (omega arith) in
-        let none : drop left names ≡ [] = drop_all left names (omega arith) in
-        subst (λ z. IsReading es types (inner_scope outer z) (under_first kind mark (drop left names) s t) body) (sym all)
-        (subst (λ z. IsReading es types (inner_scope outer names) (under_first kind mark z s t) body) (sym none) r)
 
     pub close_turn : {outer : Scope} {names : List ℕ} {cores : List Core} {made : Core} (left at e : ℕ) (d : Core) (result : Result Core ReadFault)
         → left ≡ suc at → at < length names → AreDomains es types s outer names cores
@@ -125,4 +124,4 @@ module _ {es : List Entry} {types : TypeVariables} {s : Written} where
     close_end outer names left made is some r =
         let last : IsReading es types outer (under_first kind mark names s t) made =
           subst (λ n. IsReading es types (inner_scope outer (take n names)) (under_first kind mark (drop n names) s t) made) is r in
-        subst (λ z. IsReading es types outer z made) (whole_binder names some) last
+        subst (λ z. IsReading es types outer z made) (whole_binder kind mark s t names some) last

@@ -7,7 +7,7 @@ use Rattle.lego_grammar.specs.Scopes.{LocalVariable, Scope, is_named, local_name
 -- no variable of the first ones has the name
 pub none_more : (scope : Scope) (n i : ℕ) (x : LocalVariable) → slice_get scope i ≡ Some x → is_named n (local_name x) ≡ false
     → local_named (take i scope) n ≡ None → local_named (take (suc i) scope) n ≡ None
-none_more [] n i x at other none = none
+none_more [] n i x at other none = refl
 none_more (y ∷ scope) n zero x at other none =
     let same : y ≡ x = cc in
     let here : is_named n (local_name y) ≡ false = ap (λ (z : LocalVariable). is_named n (local_name z)) same ∙ other in
@@ -41,18 +41,18 @@ first_named (y ∷ scope) n (suc i) x at is none =
     unmapped None e = refl
     unmapped (Some j) e = cc
 
+later_within : (o : Option ℕ) (length i : ℕ) → ((j : ℕ) → o ≡ Some j → suc j ≤ length) → option_map suc o ≡ Some i → suc i ≤ suc length
+later_within None length i h e = cc
+later_within (Some j) length i h e = let le = h j refl in let is : suc j ≡ i = cc in omega arith
+
 -- a local variable that is found is in scope
 pub named_within : (scope : Scope) (n i : ℕ) → local_named scope n ≡ Some i → suc i ≤ length scope
 named_within [] n i e = cc
 named_within (y ∷ scope) n i e =
     elim (is_named n (local_name y)) as (λ b. (if b then Some 0 else option_map suc (local_named scope n)) ≡ Some i → suc i ≤ suc (length scope)) [
       | true ↦ λ h. (let zero_is : 0 ≡ i = cc in omega arith)
-      | false ↦ λ h. later (local_named scope n) refl h
+      | false ↦ λ h. later_within (local_named scope n) (length scope) i (λ j p. named_within scope n j p) h
     ] e
-  where
-    later : (o : Option ℕ) → local_named scope n ≡ o → option_map suc o ≡ Some i → suc i ≤ suc (length scope)
-    later None p h = cc
-    later (Some j) p h = let le = named_within scope n j p in let is : suc j ≡ i = cc in omega arith
 
 -- lists whose end is the innermost variable
 module _ {X Y : Type 0} (f : X → Y) where

@@ -1,15 +1,22 @@
-use Rattle.std.proofs.Common.{◌≡◌, ℕ, suc, ◌+◌, ◌≤◌, ◌<◌, ◌∙◌, List, [], ◌∷◌, length, drop, Some, None, Ok, Err, refl, sym, ap, subst, arith}
+use Rattle.std.proofs.Common.{map, ◌≡◌, ℕ, suc, ◌+◌, ◌≤◌, ◌<◌, ◌∙◌, List, [], ◌∷◌, length, drop, Some, None, Ok, Err, refl, sym, ap, subst, arith}
 use Rattle.std.proofs.lemmas.Result.{err_from_is_err_and}
 use Rattle.lego_term.specs.declared.binder.Mark.TheVariants.{Plain}
 use Rattle.lego_term.specs.Trees.{Core, Pair, Let}
+use Rattle.std.proofs.lemmas.List.{take_all}
+use Rattle.lego_grammar.specs.Surface.{written, applied}
+use Rattle.lego_grammar.specs.Written.{Written}
 use Rattle.lego_grammar.specs.Reading.{binder}
+use Rattle.lego_reading.specs.Universes.{variables_for}
+use Rattle.lego_reading.specs.private.Binders.{written_argument}
+use Rattle.lego_reading.proofs.RunLemmas.{arguments_stop}
+use Rattle.lego_reading.proofs.SizeLemmas.{written-Name, written-Prop, written-AnyType, written-TypeAt, written-Hole, written-Local}
 use Rattle.lego_grammar.specs.Scopes.{LocalVariable, Scope}
 use Rattle.lego_inference.specs.Entries.{laws_entries}
 use Rattle.lego_reading.specs.private.Variables.{AreOver}
 use Rattle.lego_reading.proofs.AnnotationLemmas.{annotated_at}
-use Rattle.lego_reading.specs.private.Parts.{Stops}
-use Rattle.lego_reading.proofs.PartLemmas.{stops_at, reading_at, on_any, nameless_is, domain_stops, nameless_stops, local_is, value_stops, local_stops, pair_is, pair_type_stops, annotation_stops, first_stops, second_stops}
-use Rattle.lego_reading.proofs.ReadyLemmas.{ready_in, ready_domain, ready_body, ready_nameless, ready_value, ready_local, ready_type, ready_first, ready_second}
+use Rattle.lego_reading.specs.private.Parts.{IsReady, IsReading, Stops, ReadsAs}
+use Rattle.lego_reading.proofs.PartLemmas.{unknown_goal, stops_at, reading_at, on_any, nameless_is, domain_stops, nameless_stops, local_is, value_stops, local_stops, pair_is, pair_type_stops, annotation_stops, first_stops, second_stops}
+use Rattle.lego_reading.proofs.ReadyLemmas.{ready_applied, ready_in, ready_domain, ready_body, ready_nameless, ready_value, ready_local, ready_type, ready_first, ready_second}
 use Rattle.lego_reading.proofs.BinderLemmas.{body_halts, drop-inner, domains_length}
 use Rattle.lego_reading.proofs.reading.+reading.Goals as goal
 
@@ -140,3 +147,76 @@ pairing-returns-clause-core t c =
 
 pub pairing-returns-clause-scope : goal.pairing-returns-clause-scope
 pairing-returns-clause-scope t c = on_any c.made.result (c.in_ok-second.ensures.scope ∙ c.in_ok-first.ensures.scope ∙ c.in_ok-ty.ensures.scope)
+
+pub core_of-returns-in-Name-clause-core : goal.core_of-returns-in-Name-clause-core
+core_of-returns-in-Name-clause-core t c =
+    subst (λ (w : Written). ReadsAs c.args.setting.now.context.now c.args.setting.now.places.now c.args.setting.now.limit c.args.scope.now w c.name.result) (sym (ap written c.in-Name.is ∙ written-Name c.in-Name.place c.in-Name.n)) c.name.ensures
+
+pub core_of-returns-in-Name-clause-scope : goal.core_of-returns-in-Name-clause-scope
+core_of-returns-in-Name-clause-scope t c = on_any c.name.result refl
+
+pub core_of-returns-in-Prop-clause-core : goal.core_of-returns-in-Prop-clause-core
+core_of-returns-in-Prop-clause-core t c =
+    subst (λ (w : Written). ReadsAs c.args.setting.now.context.now c.args.setting.now.places.now c.args.setting.now.limit c.args.scope.now w c.proposition.result) (sym (ap written c.in-Prop.is ∙ written-Prop)) c.proposition.ensures
+
+pub core_of-returns-in-Prop-clause-scope : goal.core_of-returns-in-Prop-clause-scope
+core_of-returns-in-Prop-clause-scope t c = on_any c.proposition.result refl
+
+pub core_of-returns-in-AnyType-clause-core : goal.core_of-returns-in-AnyType-clause-core
+core_of-returns-in-AnyType-clause-core t c =
+    subst (λ (w : Written). ReadsAs c.args.setting.now.context.now c.args.setting.now.places.now c.args.setting.now.limit c.args.scope.now w c.any_type.result) (sym (ap written c.in-AnyType.is ∙ written-AnyType c.in-AnyType.place)) c.any_type.ensures
+
+pub core_of-returns-in-AnyType-clause-scope : goal.core_of-returns-in-AnyType-clause-scope
+core_of-returns-in-AnyType-clause-scope t c = on_any c.any_type.result refl
+
+pub core_of-returns-in-TypeAt-clause-core : goal.core_of-returns-in-TypeAt-clause-core
+core_of-returns-in-TypeAt-clause-core t c =
+    subst (λ (w : Written). ReadsAs c.args.setting.now.context.now c.args.setting.now.places.now c.args.setting.now.limit c.args.scope.now w c.type_at.result) (sym (ap written c.in-TypeAt.is ∙ written-TypeAt c.in-TypeAt.level)) c.type_at.ensures
+
+pub core_of-returns-in-TypeAt-clause-scope : goal.core_of-returns-in-TypeAt-clause-scope
+core_of-returns-in-TypeAt-clause-scope t c = on_any c.type_at.result refl
+
+pub core_of-returns-in-Hole-clause-core : goal.core_of-returns-in-Hole-clause-core
+core_of-returns-in-Hole-clause-core t c = rw (ap written c.in-Hole.is ∙ written-Hole c.in-Hole.place c.in-Hole.number) unknown_goal
+
+pub core_of-returns-in-Local-clause-core : goal.core_of-returns-in-Local-clause-core
+core_of-returns-in-Local-clause-core t c =
+    subst (λ (w : Written). ReadsAs c.args.setting.now.context.now c.args.setting.now.places.now c.args.setting.now.limit c.args.scope.now w c.local_definition.result) (sym (ap written c.in-Local.is ∙ written-Local c.in-Local.name c.in-Local.value c.in-Local.body ∙ sym (λ z. Written.Local c.in-Local.name (written (c.get-in-Local.ensures z)) (written (c.get-in-Local-2.ensures z))))) c.local_definition.ensures.core
+
+pub core_of-returns-in-Local-clause-scope : goal.core_of-returns-in-Local-clause-scope
+core_of-returns-in-Local-clause-scope t c = c.local_definition.ensures.scope
+
+pub core_of-name-requires : goal.core_of-name-requires
+core_of-name-requires t c = let f = c.requires.few in omega arith
+
+pub core_of-any_type-requires-clause-held : goal.core_of-any_type-requires-clause-held
+core_of-any_type-requires-clause-held t c =
+    (subst (λ (w : Written). IsReady c.args.setting.now.context.now c.args.setting.now.places.now c.args.scope.now w) (ap written c.in-AnyType.is ∙ written-AnyType c.in-AnyType.place) c.requires).held.0
+
+pub core_of-any_type-requires-clause-room : goal.core_of-any_type-requires-clause-room
+core_of-any_type-requires-clause-room t c = c.requires.room
+
+pub core_of-returns-then-is_empty-clause-scope : goal.core_of-returns-then-is_empty-clause-scope
+core_of-returns-then-is_empty-clause-scope t c = c.nameless.ensures.scope
+
+pub core_of-returns-else-is_empty-clause-scope : goal.core_of-returns-else-is_empty-clause-scope
+core_of-returns-else-is_empty-clause-scope t c = c.named.ensures.scope
+
+pub application-core_of-requires : goal.application-core_of-requires
+application-core_of-requires t c =
+    let falls = c.decreases in
+    (omega arith, ready_applied (written c.args.function.now) (map written_argument c.args.arguments.now) c.requires)
+
+pub application-returns-in_err-applied-clause-core : goal.application-returns-in_err-applied-clause-core
+application-returns-in_err-applied-clause-core t c =
+    let e = err_from_is_err_and c.from_residual.result c.from_residual.ensures.1 in
+    rw (e.1, e.2) (arguments_stop (written c.args.function.now) c.args.arguments.now 0 c.in_err-applied.ensures.core)
+
+pub application-returns-clause-scope : goal.application-returns-clause-scope
+application-returns-clause-scope t c = c.loop-mark.invariant.1
+
+pub application-returns-clause-core : goal.application-returns-clause-core
+application-returns-clause-core t c =
+    subst (λ xs. IsReading (laws_entries c.args.setting.now.context.now.entries) (variables_for c.args.setting.now.context.now.levels c.args.setting.now.places.now)
+      c.args.scope.now (applied (written c.args.function.now) (map written_argument xs)) c.loop-mark.applied)
+    (take_all c.loop-mark.mark-index c.args.arguments.now c.loop-mark-test.false) c.loop-mark.invariant.0
