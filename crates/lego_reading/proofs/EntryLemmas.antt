@@ -1,6 +1,7 @@
 -- Entries by their names.
 use Rattle.std.proofs.Common.{◌≡◌, ℕ, zero, suc, ◌+◌, ◌<◌, ◌≤◌, Bool, true, false, nat_eq, nat_lt, cond, if◌then◌else◌, List, [], ◌∷◌, length, map, position, slice_get, Option, Some, None, option_map, refl, sym, ap, ◌∙◌, subst, arith}
 use Rattle.std.specs.List.{position_or_len}
+use Rattle.std.proofs.lemmas.Bool.Decides.{nat_tests}
 use Rattle.lego_laws.specs.Entries.{Entry}
 use Rattle.lego_grammar.specs.Scopes.{is_named, entry_named}
 use Rattle.lego_inference.specs.declared.entry.Entry.{Entry as Item}
@@ -8,21 +9,26 @@ use Rattle.lego_inference.specs.Entries.{laws_entry, laws_entries}
 use Rattle.lego_context.specs.Entries.{position_of}
 use Rattle.lego_context.specs.Entries as context
 
-one_more : (n : ℕ) → suc n ≡ 1 + n
-one_more n = omega arith
+first_place : (n : ℕ) → nat_lt 0 (suc n) ≡ true
+first_place n = grind (arith, nat_tests)
+
+next_place : (b : Bool) (n m : ℕ) → nat_lt n m ≡ b → nat_lt (1 + n) (suc m) ≡ b
+next_place true n m e = grind (arith, nat_tests)
+next_place false n m e = grind (arith, nat_tests)
+
+one_further : (b : Bool) (n : ℕ) → (if b then Some (1 + n) else None) ≡ option_map suc (if b then Some n else None)
+one_further true n = let s : 1 + n ≡ suc n = omega arith in ap (λ k. Some k) s
+one_further false n = refl
 
 pub position-cons : {X : Type 0} (p : X → Bool) (x : X) (xs : List X) → position p (x ∷ xs) ≡ (if p x then Some 0 else option_map suc (position p xs))
 position-cons p x xs = by_test (p x) refl
   where
-    inner : (b : Bool) → nat_lt (position_or_len p xs) (length xs) ≡ b
-        → cond (nat_lt (suc (position_or_len p xs)) (suc (length xs))) (Some (suc (position_or_len p xs))) None ≡ option_map suc (position p xs)
-    inner true e = rw e refl
-    inner false e = rw e refl
-    by_test : (b : Bool) → p x ≡ b → position p (x ∷ xs) ≡ (if b then Some 0 else option_map suc (position p xs))
-    by_test true is = rw is refl
-    by_test false is =
-        rw is (subst (λ z. cond (nat_lt z (suc (length xs))) (Some z) None ≡ option_map suc (position p xs)) (one_more (position_or_len p xs))
-        (inner (nat_lt (position_or_len p xs) (length xs)) refl))
+    by_test : (b : Bool) → p x ≡ b → position p (x ∷ xs) ≡ (if p x then Some 0 else option_map suc (position p xs))
+    by_test true e = let l = first_place (length xs) in rw (e, l) refl
+    by_test false e =
+        let l = next_place (nat_lt (position_or_len p xs) (length xs)) (position_or_len p xs) (length xs) refl in
+        let r = one_further (nat_lt (position_or_len p xs) (length xs)) (position_or_len p xs) in
+        rw (e, l) r
 
 some_is : {X : Type 0} {t u : X} → Some t ≡ Some u → t ≡ u
 some_is e = cc
@@ -46,15 +52,16 @@ entry_at (x ∷ es) n i e p at =
     elim (context.is_named n x) as (λ b. (if b then Some 0 else option_map suc (position_of es n)) ≡ Some i → slice_get (x ∷ es) i ≡ Some e
       → (if b then Some (laws_entry x) else entry_named (laws_entries es) n) ≡ Some (laws_entry e)) [
       | true ↦ λ h a. here i h a
-      | false ↦ λ h a. later i h a
+      | false ↦ λ h a. later i (λ j z y. entry_at es n j e z y) h a
     ] q at
   where
     here : (i : ℕ) → ◌≡◌ {A = Option ℕ} (Some 0) (Some i) → slice_get (x ∷ es) i ≡ Some e → ◌≡◌ {A = Option Entry} (Some (laws_entry x)) (Some (laws_entry e))
     here zero h a = let same : x ≡ e = cc in ap (λ (z : Item). Some (laws_entry z)) same
     here (suc i) h a = let wrong : 0 ≡ suc i = cc in omega (arith, wrong)
-    later : (i : ℕ) → option_map suc (position_of es n) ≡ Some i → slice_get (x ∷ es) i ≡ Some e → entry_named (laws_entries es) n ≡ Some (laws_entry e)
-    later zero h a = absurd (not_zero (position_of es n) h)
-    later (suc i) h a = entry_at es n i e (before (position_of es n) i h) a
+    later : (i : ℕ) → ((j : ℕ) → position_of es n ≡ Some j → slice_get es j ≡ Some e → entry_named (laws_entries es) n ≡ Some (laws_entry e))
+        → option_map suc (position_of es n) ≡ Some i → slice_get (x ∷ es) i ≡ Some e → entry_named (laws_entries es) n ≡ Some (laws_entry e)
+    later zero go h a = absurd (not_zero (position_of es n) h)
+    later (suc i) go h a = go i (before (position_of es n) i h) a
 
 pub no_entry : (es : List Item) (n : ℕ) → position_of es n ≡ None → entry_named (laws_entries es) n ≡ None
 no_entry [] n p = refl
@@ -73,12 +80,12 @@ is_there (x ∷ es) n i p none =
     let q : (if context.is_named n x then Some 0 else option_map suc (position_of es n)) ≡ Some i = sym (position-cons (context.is_named n) x es) ∙ p in
     elim (context.is_named n x) as (λ b. (if b then Some 0 else option_map suc (position_of es n)) ≡ Some i → ⊥) [
       | true ↦ λ h. here i h none
-      | false ↦ λ h. later i h none
+      | false ↦ λ h. later i (λ j z y. is_there es n j z y) h none
     ] q
   where
     here : (i : ℕ) → ◌≡◌ {A = Option ℕ} (Some 0) (Some i) → slice_get (x ∷ es) i ≡ None → ⊥
     here zero h a = cc
     here (suc i) h a = let wrong : 0 ≡ suc i = cc in omega (arith, wrong)
-    later : (i : ℕ) → option_map suc (position_of es n) ≡ Some i → slice_get (x ∷ es) i ≡ None → ⊥
-    later zero h a = not_zero (position_of es n) h
-    later (suc i) h a = is_there es n i (before (position_of es n) i h) a
+    later : (i : ℕ) → ((j : ℕ) → position_of es n ≡ Some j → slice_get es j ≡ None → ⊥) → option_map suc (position_of es n) ≡ Some i → slice_get (x ∷ es) i ≡ None → ⊥
+    later zero go h a = not_zero (position_of es n) h
+    later (suc i) go h a = go i (before (position_of es n) i h) a

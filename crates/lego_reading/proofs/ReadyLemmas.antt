@@ -33,10 +33,11 @@ over-inner : (scope : Scope) (names : List ℕ) → AreOver scope → AreOver (i
 over-inner scope [] h = h
 over-inner scope (n ∷ names) h = over-inner (LocalVariable.Bound (Some n) ∷ scope) names h
 
-module _ {c : Contents} {places : List Place} where
-  abbrev Held : Place → Type 0
-  Held p = IsSome (variables_for c.levels places p)
+-- the place has a level variable
+abbrev Held : Contents → List Place → Place → Type 0
+Held c places p = IsSome (variables_for c.levels places p)
 
+module _ {c : Contents} {places : List Place} where
   pub ready_in : {a b : Scope} {s : Written} → b ≡ a → IsReady c places a s → IsReady c places b s
   ready_in {s = s} e r = subst (λ z. IsReady c places z s) (sym e) r
 
@@ -45,7 +46,7 @@ module _ {c : Contents} {places : List Place} where
       → length front ≤ length names → IsReady c places scope (Written.Bind kind mark names s t) → IsReady c places (inner_scope scope front) s
   ready_domain {scope} {names = names} {s = s} {t = t} front le r = record {
     few = let f = r.few in let l = length-inner scope front in omega arith;
-    held = every_left Held (type_places s) (type_places t) r.held;
+    held = every_left (Held c places) (type_places s) (type_places t) r.held;
     room = r.room;
     over = over-inner scope front r.over;
   }
@@ -54,27 +55,27 @@ module _ {c : Contents} {places : List Place} where
       → IsReady c places scope (Written.Bind kind mark names s t) → IsReady c places (inner_scope scope names) t
   ready_body {scope} {names = names} {s = s} {t = t} r = record {
     few = let f = r.few in let l = length-inner scope names in omega arith;
-    held = every_right Held (type_places s) (type_places t) r.held;
+    held = every_right (Held c places) (type_places s) (type_places t) r.held;
     room = r.room;
     over = over-inner scope names r.over;
   }
 
   pub ready_nameless : {scope : Scope} {kind : Kind} {mark : Mark} {s t : Written}
       → IsReady c places scope (Written.Bind kind mark [] s t) → IsReady c places (LocalVariable.Bound None ∷ scope) t
-  ready_nameless {s = s} {t = t} r = record { few = let f = r.few in omega arith; held = every_right Held (type_places s) (type_places t) r.held; room = r.room; over = r.over }
+  ready_nameless {s = s} {t = t} r = record { few = let f = r.few in omega arith; held = every_right (Held c places) (type_places s) (type_places t) r.held; room = r.room; over = r.over }
 
   pub ready_value : {scope : Scope} {n : ℕ} {s t : Written} → IsReady c places scope (Written.Local n s t) → IsReady c places scope s
-  ready_value {s = s} {t = t} r = record { few = let f = r.few in omega arith; held = every_left Held (type_places s) (type_places t) r.held; room = r.room; over = r.over }
+  ready_value {s = s} {t = t} r = record { few = let f = r.few in omega arith; held = every_left (Held c places) (type_places s) (type_places t) r.held; room = r.room; over = r.over }
 
   pub ready_local : {scope : Scope} {n : ℕ} {s t : Written} {m : Core}
       → loose m ≤ length scope → IsReady c places scope (Written.Local n s t) → IsReady c places (LocalVariable.Defined n m ∷ scope) t
-  ready_local {s = s} {t = t} l r = record { few = let f = r.few in omega arith; held = every_right Held (type_places s) (type_places t) r.held; room = r.room; over = (l, r.over) }
+  ready_local {s = s} {t = t} l r = record { few = let f = r.few in omega arith; held = every_right (Held c places) (type_places s) (type_places t) r.held; room = r.room; over = (l, r.over) }
 
   pub ready_function : {scope : Scope} {mark : Mark} {s t : Written} → IsReady c places scope (Written.Apply mark s t) → IsReady c places scope s
-  ready_function {s = s} {t = t} r = record { few = let f = r.few in omega arith; held = every_left Held (type_places s) (type_places t) r.held; room = r.room; over = r.over }
+  ready_function {s = s} {t = t} r = record { few = let f = r.few in omega arith; held = every_left (Held c places) (type_places s) (type_places t) r.held; room = r.room; over = r.over }
 
   pub ready_argument : {scope : Scope} {mark : Mark} {s t : Written} → IsReady c places scope (Written.Apply mark s t) → IsReady c places scope t
-  ready_argument {s = s} {t = t} r = record { few = let f = r.few in omega arith; held = every_right Held (type_places s) (type_places t) r.held; room = r.room; over = r.over }
+  ready_argument {s = s} {t = t} r = record { few = let f = r.few in omega arith; held = every_right (Held c places) (type_places s) (type_places t) r.held; room = r.room; over = r.over }
 
   -- a function with its first arguments
   pub ready_applied : {scope : Scope} (f : Written) (xs : List (Mark × Written)) → IsReady c places scope (applied f xs) → IsReady c places scope f
@@ -89,7 +90,7 @@ module _ {c : Contents} {places : List Place} where
   pub ready_type : {scope : Scope} {m n t : Written} → IsReady c places scope (Written.Pair m n t) → IsReady c places scope t
   ready_type {m = m} {n = n} {t = t} r = record {
     few = let f = r.few in omega arith;
-    held = every_left Held (type_places t) (type_places m) (every_left Held (type_places t ++ type_places m) (type_places n) r.held);
+    held = every_left (Held c places) (type_places t) (type_places m) (every_left (Held c places) (type_places t ++ type_places m) (type_places n) r.held);
     room = r.room;
     over = r.over;
   }
@@ -97,7 +98,7 @@ module _ {c : Contents} {places : List Place} where
   pub ready_first : {scope : Scope} {m n t : Written} → IsReady c places scope (Written.Pair m n t) → IsReady c places scope m
   ready_first {m = m} {n = n} {t = t} r = record {
     few = let f = r.few in omega arith;
-    held = every_right Held (type_places t) (type_places m) (every_left Held (type_places t ++ type_places m) (type_places n) r.held);
+    held = every_right (Held c places) (type_places t) (type_places m) (every_left (Held c places) (type_places t ++ type_places m) (type_places n) r.held);
     room = r.room;
     over = r.over;
   }
@@ -105,7 +106,7 @@ module _ {c : Contents} {places : List Place} where
   pub ready_second : {scope : Scope} {m n t : Written} → IsReady c places scope (Written.Pair m n t) → IsReady c places scope n
   ready_second {m = m} {n = n} {t = t} r = record {
     few = let f = r.few in omega arith;
-    held = every_right Held (type_places t ++ type_places m) (type_places n) r.held;
+    held = every_right (Held c places) (type_places t ++ type_places m) (type_places n) r.held;
     room = r.room;
     over = r.over;
   }

@@ -3,6 +3,7 @@ use Rattle.std.proofs.Common.{◌≡◌, ℕ, zero, suc, ◌+◌, ◌≤◌, ◌
 use Rattle.std.specs.List.{AllByRecursion, list_any}
 use Rattle.std.proofs.lemmas.List.{append_assoc, append-nil, map-append, take_more}
 use Rattle.std.proofs.lemmas.List.Folds.{list_any-append}
+use Rattle.std.proofs.lemmas.Bool.Decides.{nat_tests}
 use Rattle.lego_base.specs.declared.place.Place.{Place}
 use Rattle.lego_term.specs.declared.binder.Mark.{Mark}
 use Rattle.lego_grammar.specs.declared.surface.Part.{Part}
@@ -47,8 +48,7 @@ is_itself : (p : Place) → is_place p p ≡ true
 is_itself p = rw (itself p.line, itself p.column) refl
   where
     itself : (n : ℕ) → nat_eq n n ≡ true
-    itself zero = refl
-    itself (suc n) = itself n
+    itself n = grind (arith, nat_tests)
 
 or_left : (a b : Bool) → a ≡ true → (a || b) ≡ true
 or_left true b h = refl
@@ -74,7 +74,7 @@ module _ (q : Place → Bool) where
   position_found n ps h = found ps n h
     where
       mapped : (o : Option ℕ) (f : ℕ → ℕ) → IsSome o → IsSome (option_map f o)
-      mapped (Some i) f h = tt
+      mapped (Some i) f h = h
       mapped None f h = h
       there : (ps : List Place) → list_any q ps ≡ true → IsSome (position q ps)
       there [] h = cc

@@ -12,13 +12,13 @@ abbrev pub decreases-core_of : goal.decreases-core_of
 decreases-core_of l = 3 * nodes l.s.now
 
 abbrev pub decreases-nameless : goal.decreases-nameless
-decreases-nameless l = 3 * (nodes l.head.domain.now + nodes l.body.now) + 1
+decreases-nameless l = 3 * (nodes l.head.now.domain.now + nodes l.body.now) + 1
 
 abbrev pub decreases-named : goal.decreases-named
-decreases-named l = 3 * (nodes l.head.domain.now + nodes l.body.now) + 2
+decreases-named l = 3 * (nodes l.head.now.domain.now + nodes l.body.now) + 2
 
 abbrev pub decreases-domains : goal.decreases-domains
-decreases-domains l = 3 * (nodes l.head.domain.now + nodes l.body.now) + 1
+decreases-domains l = 3 * (nodes l.head.now.domain.now + nodes l.body.now) + 1
 
 abbrev pub decreases-local_definition : goal.decreases-local_definition
 decreases-local_definition l = 3 * (nodes l.value.now + nodes l.body.now) + 1
