@@ -1,0 +1,222 @@
+use Rattle.std.proofs.Common.{map, ◌≡◌, ℕ, suc, ◌+◌, ◌≤◌, ◌<◌, ◌∙◌, List, [], ◌∷◌, length, drop, Some, None, Ok, Err, refl, sym, ap, subst, arith}
+use Rattle.std.proofs.lemmas.Result.{err_from_is_err_and}
+use Rattle.lego_term.specs.declared.binder.Mark.TheVariants.{Plain}
+use Rattle.lego_term.specs.Trees.{Core, Pair, Let}
+use Rattle.std.proofs.lemmas.List.{take_all}
+use Rattle.lego_grammar.specs.Surface.{written, applied}
+use Rattle.lego_grammar.specs.Written.{Written}
+use Rattle.lego_grammar.specs.Reading.{binder}
+use Rattle.lego_reading.specs.Universes.{variables_for}
+use Rattle.lego_reading.specs.private.Binders.{written_argument}
+use Rattle.lego_reading.proofs.RunLemmas.{arguments_stop}
+use Rattle.lego_reading.proofs.SizeLemmas.{written-Name, written-Prop, written-AnyType, written-TypeAt, written-Hole, written-Local}
+use Rattle.lego_grammar.specs.Scopes.{LocalVariable, Scope}
+use Rattle.lego_inference.specs.Entries.{laws_entries}
+use Rattle.lego_reading.specs.private.Variables.{AreOver}
+use Rattle.lego_reading.proofs.AnnotationLemmas.{annotated_at}
+use Rattle.lego_reading.specs.private.Parts.{IsReady, IsReading, Stops, ReadsAs}
+use Rattle.lego_reading.proofs.PartLemmas.{unknown_goal, stops_at, reading_at, on_any, nameless_is, domain_stops, nameless_stops, local_is, value_stops, local_stops, pair_is, pair_type_stops, annotation_stops, first_stops, second_stops}
+use Rattle.lego_reading.proofs.ReadyLemmas.{ready_applied, ready_in, ready_domain, ready_body, ready_nameless, ready_value, ready_local, ready_type, ready_first, ready_second}
+use Rattle.lego_reading.proofs.BinderLemmas.{body_halts, drop-inner, domains_length}
+use Rattle.lego_reading.proofs.reading.+reading.Goals as goal
+
+pub nameless-core_of-requires : goal.nameless-core_of-requires
+nameless-core_of-requires t c = let falls = c.decreases in (omega arith, ready_domain [] (omega arith) c.requires)
+
+pub nameless-returns-in_err-domain-clause-core : goal.nameless-returns-in_err-domain-clause-core
+nameless-returns-in_err-domain-clause-core t c =
+    let e = err_from_is_err_and c.from_residual.result c.from_residual.ensures.1 in
+    rw (e.1, e.2) (domain_stops c.in_err-domain.ensures.core)
+
+pub nameless-returns-in_err-push-clause-core : goal.nameless-returns-in_err-push-clause-core
+nameless-returns-in_err-push-clause-core t c =
+    let e = err_from_is_err_and c.from_residual-in_err-push.result c.from_residual-in_err-push.ensures.1 in
+    rw (e.1, e.2) Stops.memory
+
+pub nameless-core_of-requires-2 : goal.nameless-core_of-requires-2
+nameless-core_of-requires-2 t c =
+    let falls = c.decreases in
+    (omega arith, ready_in (c.in_ok-push.ensures ∙ ap (λ (z : Scope). LocalVariable.Bound None ∷ z) c.in_ok-domain.ensures.scope) (ready_nameless c.requires))
+
+pub nameless-returns-in_err-body-clause-core : goal.nameless-returns-in_err-body-clause-core
+nameless-returns-in_err-body-clause-core t c =
+    let e = err_from_is_err_and c.from_residual-in_err-body.result c.from_residual-in_err-body.ensures.1 in
+    rw (e.1, e.2) (nameless_stops c.in_ok-domain.ensures.core
+      (stops_at (c.in_ok-push.ensures ∙ ap (λ (z : Scope). LocalVariable.Bound None ∷ z) c.in_ok-domain.ensures.scope) c.in_err-body.ensures.core))
+
+pub nameless-pop-requires : goal.nameless-pop-requires
+nameless-pop-requires t c = let k = ap (λ (z : Scope). length z) (c.in_ok-body.ensures.scope ∙ c.in_ok-push.ensures) in omega arith
+
+pub nameless-returns-clause-core : goal.nameless-returns-clause-core
+nameless-returns-clause-core t c =
+    nameless_is c.args.setting.now.limit c.args.head.now.kind c.args.head.now.mark c.bound.result c.in_ok-domain.ensures.core
+    (reading_at (c.in_ok-push.ensures ∙ ap (λ (z : Scope). LocalVariable.Bound None ∷ z) c.in_ok-domain.ensures.scope) c.in_ok-body.ensures.core) c.bound.ensures
+
+pub nameless-returns-clause-scope : goal.nameless-returns-clause-scope
+nameless-returns-clause-scope t c =
+    on_any c.bound.result (c.pop.ensures ∙ ap (λ (z : Scope). drop 1 z) (c.in_ok-body.ensures.scope ∙ c.in_ok-push.ensures) ∙ c.in_ok-domain.ensures.scope)
+
+pub local_definition-core_of-requires : goal.local_definition-core_of-requires
+local_definition-core_of-requires t c = let falls = c.decreases in (omega arith, ready_value c.requires)
+
+pub local_definition-returns-in_err-value-clause-core : goal.local_definition-returns-in_err-value-clause-core
+local_definition-returns-in_err-value-clause-core t c =
+    let e = err_from_is_err_and c.from_residual.result c.from_residual.ensures.1 in
+    rw (e.1, e.2) (value_stops c.in_err-value.ensures.core)
+
+pub local_definition-returns-in_err-shared-clause-core : goal.local_definition-returns-in_err-shared-clause-core
+local_definition-returns-in_err-shared-clause-core t c =
+    let e = err_from_is_err_and c.from_residual-in_err-shared.result c.from_residual-in_err-shared.ensures.1 in
+    rw (e.1, e.2) Stops.memory
+
+pub local_definition-returns-in_err-push-clause-core : goal.local_definition-returns-in_err-push-clause-core
+local_definition-returns-in_err-push-clause-core t c =
+    let e = err_from_is_err_and c.from_residual-in_err-push.result c.from_residual-in_err-push.ensures.1 in
+    rw (e.1, e.2) Stops.memory
+
+pub local_definition-core_of-requires-2 : goal.local_definition-core_of-requires-2
+local_definition-core_of-requires-2 t c =
+    let falls = c.decreases in
+    (omega arith, ready_in (c.in_ok-push.ensures ∙ ap (λ (z : Core). LocalVariable.Defined c.args.name z ∷ c.core_of.new.scope) c.in_ok-shared.ensures.same ∙ ap (λ (z : Scope). LocalVariable.Defined c.args.name c.in_ok-value.value ∷ z) c.in_ok-value.ensures.scope) (ready_local c.in_ok-value.ensures.core.over c.requires))
+
+pub local_definition-returns-in_err-body-clause-core : goal.local_definition-returns-in_err-body-clause-core
+local_definition-returns-in_err-body-clause-core t c =
+    let e = err_from_is_err_and c.from_residual-in_err-body.result c.from_residual-in_err-body.ensures.1 in
+    rw (e.1, e.2) (local_stops c.in_ok-value.ensures.core (stops_at (c.in_ok-push.ensures ∙ ap (λ (z : Core). LocalVariable.Defined c.args.name z ∷ c.core_of.new.scope) c.in_ok-shared.ensures.same ∙ ap (λ (z : Scope). LocalVariable.Defined c.args.name c.in_ok-value.value ∷ z) c.in_ok-value.ensures.scope) c.in_err-body.ensures.core))
+
+pub local_definition-pop-requires : goal.local_definition-pop-requires
+local_definition-pop-requires t c = let k = ap (λ (z : Scope). length z) (c.in_ok-body.ensures.scope ∙ c.in_ok-push.ensures) in omega arith
+
+pub local_definition-returns-clause-core : goal.local_definition-returns-clause-core
+local_definition-returns-clause-core t c =
+    local_is c.args.setting.now.limit c.made.result c.in_ok-value.ensures.core (reading_at (c.in_ok-push.ensures ∙ ap (λ (z : Core). LocalVariable.Defined c.args.name z ∷ c.core_of.new.scope) c.in_ok-shared.ensures.same ∙ ap (λ (z : Scope). LocalVariable.Defined c.args.name c.in_ok-value.value ∷ z) c.in_ok-value.ensures.scope) c.in_ok-body.ensures.core)
+    (c.made.ensures (Let (binder (Some c.args.name) Plain) c.in_ok-value.value c.in_ok-body.body) c.local.ensures)
+
+pub local_definition-returns-clause-scope : goal.local_definition-returns-clause-scope
+local_definition-returns-clause-scope t c =
+    on_any c.made.result (c.pop.ensures ∙ ap (λ (z : Scope). drop 1 z) (c.in_ok-body.ensures.scope ∙ c.in_ok-push.ensures) ∙ c.in_ok-value.ensures.scope)
+
+pub pairing-core_of-requires : goal.pairing-core_of-requires
+pairing-core_of-requires t c = let falls = c.decreases in (omega arith, ready_type c.requires)
+
+pub pairing-returns-in_err-ty-clause-core : goal.pairing-returns-in_err-ty-clause-core
+pairing-returns-in_err-ty-clause-core t c =
+    let e = err_from_is_err_and c.from_residual.result c.from_residual.ensures.1 in
+    rw (e.1, e.2) (pair_type_stops c.in_err-ty.ensures.core)
+
+pub pairing-annotation-requires-clause-scope : goal.pairing-annotation-requires-clause-scope
+pairing-annotation-requires-clause-scope t c = subst AreOver (sym c.in_ok-ty.ensures.scope) c.requires.over
+
+pub pairing-annotation-requires-clause-room : goal.pairing-annotation-requires-clause-room
+pairing-annotation-requires-clause-room t c = let k = ap (λ (z : Scope). length z) c.in_ok-ty.ensures.scope in let f = c.requires.few in omega arith
+
+pub pairing-annotation-requires-clause-within : goal.pairing-annotation-requires-clause-within
+pairing-annotation-requires-clause-within t c = let k = ap (λ (z : Scope). length z) c.in_ok-ty.ensures.scope in let l = c.in_ok-ty.ensures.core.over in omega arith
+
+pub pairing-returns-in_err-sigma-clause-core : goal.pairing-returns-in_err-sigma-clause-core
+pairing-returns-in_err-sigma-clause-core t c =
+    let e = err_from_is_err_and c.from_residual-in_err-sigma.result c.from_residual-in_err-sigma.ensures.1 in
+    rw (e.1, e.2) (annotation_stops c.in_ok-ty.ensures.core (annotated_at (laws_entries c.args.setting.now.context.now.entries) c.args.setting.now.limit c.in_ok-ty.ty (Err c.in_err-sigma.field-0.0) c.in_ok-ty.ensures.scope c.in_err-sigma.ensures))
+
+pub pairing-core_of-requires-2 : goal.pairing-core_of-requires-2
+pairing-core_of-requires-2 t c = let falls = c.decreases in (omega arith, ready_in c.in_ok-ty.ensures.scope (ready_first c.requires))
+
+pub pairing-returns-in_err-first-clause-core : goal.pairing-returns-in_err-first-clause-core
+pairing-returns-in_err-first-clause-core t c =
+    let e = err_from_is_err_and c.from_residual-in_err-first.result c.from_residual-in_err-first.ensures.1 in
+    rw (e.1, e.2) (first_stops c.in_ok-ty.ensures.core (annotated_at (laws_entries c.args.setting.now.context.now.entries) c.args.setting.now.limit c.in_ok-ty.ty (Ok c.in_ok-sigma.sigma) c.in_ok-ty.ensures.scope c.in_ok-sigma.ensures).0
+      (stops_at c.in_ok-ty.ensures.scope c.in_err-first.ensures.core))
+
+pub pairing-core_of-requires-3 : goal.pairing-core_of-requires-3
+pairing-core_of-requires-3 t c =
+    let falls = c.decreases in (omega arith, ready_in (c.in_ok-first.ensures.scope ∙ c.in_ok-ty.ensures.scope) (ready_second c.requires))
+
+pub pairing-returns-in_err-second-clause-core : goal.pairing-returns-in_err-second-clause-core
+pairing-returns-in_err-second-clause-core t c =
+    let e = err_from_is_err_and c.from_residual-in_err-second.result c.from_residual-in_err-second.ensures.1 in
+    rw (e.1, e.2) (second_stops c.in_ok-ty.ensures.core (annotated_at (laws_entries c.args.setting.now.context.now.entries) c.args.setting.now.limit c.in_ok-ty.ty (Ok c.in_ok-sigma.sigma) c.in_ok-ty.ensures.scope c.in_ok-sigma.ensures).0
+      (reading_at c.in_ok-ty.ensures.scope c.in_ok-first.ensures.core)
+      (stops_at (c.in_ok-first.ensures.scope ∙ c.in_ok-ty.ensures.scope) c.in_err-second.ensures.core))
+
+pub pairing-returns-clause-core : goal.pairing-returns-clause-core
+pairing-returns-clause-core t c =
+    let k = annotated_at (laws_entries c.args.setting.now.context.now.entries) c.args.setting.now.limit c.in_ok-ty.ty (Ok c.in_ok-sigma.sigma) c.in_ok-ty.ensures.scope c.in_ok-sigma.ensures in
+    pair_is c.args.setting.now.limit c.made.result c.in_ok-ty.ensures.core k.0 k.1 (reading_at c.in_ok-ty.ensures.scope c.in_ok-first.ensures.core)
+    (reading_at (c.in_ok-first.ensures.scope ∙ c.in_ok-ty.ensures.scope) c.in_ok-second.ensures.core)
+    (c.made.ensures (Pair c.in_ok-sigma.sigma.binder c.in_ok-sigma.sigma.first c.in_ok-sigma.sigma.second c.in_ok-first.first c.in_ok-second.second) c.pair.ensures)
+
+pub pairing-returns-clause-scope : goal.pairing-returns-clause-scope
+pairing-returns-clause-scope t c = on_any c.made.result (c.in_ok-second.ensures.scope ∙ c.in_ok-first.ensures.scope ∙ c.in_ok-ty.ensures.scope)
+
+pub core_of-returns-in-Name-clause-core : goal.core_of-returns-in-Name-clause-core
+core_of-returns-in-Name-clause-core t c =
+    subst (λ (w : Written). ReadsAs c.args.setting.now.context.now c.args.setting.now.places.now c.args.setting.now.limit c.args.scope.now w c.name.result) (sym (ap written c.in-Name.is ∙ written-Name c.in-Name.place c.in-Name.n)) c.name.ensures
+
+pub core_of-returns-in-Name-clause-scope : goal.core_of-returns-in-Name-clause-scope
+core_of-returns-in-Name-clause-scope t c = on_any c.name.result refl
+
+pub core_of-returns-in-Prop-clause-core : goal.core_of-returns-in-Prop-clause-core
+core_of-returns-in-Prop-clause-core t c =
+    subst (λ (w : Written). ReadsAs c.args.setting.now.context.now c.args.setting.now.places.now c.args.setting.now.limit c.args.scope.now w c.proposition.result) (sym (ap written c.in-Prop.is ∙ written-Prop)) c.proposition.ensures
+
+pub core_of-returns-in-Prop-clause-scope : goal.core_of-returns-in-Prop-clause-scope
+core_of-returns-in-Prop-clause-scope t c = on_any c.proposition.result refl
+
+pub core_of-returns-in-AnyType-clause-core : goal.core_of-returns-in-AnyType-clause-core
+core_of-returns-in-AnyType-clause-core t c =
+    subst (λ (w : Written). ReadsAs c.args.setting.now.context.now c.args.setting.now.places.now c.args.setting.now.limit c.args.scope.now w c.any_type.result) (sym (ap written c.in-AnyType.is ∙ written-AnyType c.in-AnyType.place)) c.any_type.ensures
+
+pub core_of-returns-in-AnyType-clause-scope : goal.core_of-returns-in-AnyType-clause-scope
+core_of-returns-in-AnyType-clause-scope t c = on_any c.any_type.result refl
+
+pub core_of-returns-in-TypeAt-clause-core : goal.core_of-returns-in-TypeAt-clause-core
+core_of-returns-in-TypeAt-clause-core t c =
+    subst (λ (w : Written). ReadsAs c.args.setting.now.context.now c.args.setting.now.places.now c.args.setting.now.limit c.args.scope.now w c.type_at.result) (sym (ap written c.in-TypeAt.is ∙ written-TypeAt c.in-TypeAt.level)) c.type_at.ensures
+
+pub core_of-returns-in-TypeAt-clause-scope : goal.core_of-returns-in-TypeAt-clause-scope
+core_of-returns-in-TypeAt-clause-scope t c = on_any c.type_at.result refl
+
+pub core_of-returns-in-Hole-clause-core : goal.core_of-returns-in-Hole-clause-core
+core_of-returns-in-Hole-clause-core t c = rw (ap written c.in-Hole.is ∙ written-Hole c.in-Hole.place c.in-Hole.number) unknown_goal
+
+pub core_of-returns-in-Local-clause-core : goal.core_of-returns-in-Local-clause-core
+core_of-returns-in-Local-clause-core t c =
+    subst (λ (w : Written). ReadsAs c.args.setting.now.context.now c.args.setting.now.places.now c.args.setting.now.limit c.args.scope.now w c.local_definition.result) (sym (ap written c.in-Local.is ∙ written-Local c.in-Local.name c.in-Local.value c.in-Local.body ∙ sym (λ z. Written.Local c.in-Local.name (written (c.get-in-Local.ensures z)) (written (c.get-in-Local-2.ensures z))))) c.local_definition.ensures.core
+
+pub core_of-returns-in-Local-clause-scope : goal.core_of-returns-in-Local-clause-scope
+core_of-returns-in-Local-clause-scope t c = c.local_definition.ensures.scope
+
+pub core_of-name-requires : goal.core_of-name-requires
+core_of-name-requires t c = let f = c.requires.few in omega arith
+
+pub core_of-any_type-requires-clause-held : goal.core_of-any_type-requires-clause-held
+core_of-any_type-requires-clause-held t c =
+    (subst (λ (w : Written). IsReady c.args.setting.now.context.now c.args.setting.now.places.now c.args.scope.now w) (ap written c.in-AnyType.is ∙ written-AnyType c.in-AnyType.place) c.requires).held.0
+
+pub core_of-any_type-requires-clause-room : goal.core_of-any_type-requires-clause-room
+core_of-any_type-requires-clause-room t c = c.requires.room
+
+pub core_of-returns-then-is_empty-clause-scope : goal.core_of-returns-then-is_empty-clause-scope
+core_of-returns-then-is_empty-clause-scope t c = c.nameless.ensures.scope
+
+pub core_of-returns-else-is_empty-clause-scope : goal.core_of-returns-else-is_empty-clause-scope
+core_of-returns-else-is_empty-clause-scope t c = c.named.ensures.scope
+
+pub application-core_of-requires : goal.application-core_of-requires
+application-core_of-requires t c =
+    let falls = c.decreases in
+    (omega arith, ready_applied (written c.args.function.now) (map written_argument c.args.arguments.now) c.requires)
+
+pub application-returns-in_err-applied-clause-core : goal.application-returns-in_err-applied-clause-core
+application-returns-in_err-applied-clause-core t c =
+    let e = err_from_is_err_and c.from_residual.result c.from_residual.ensures.1 in
+    rw (e.1, e.2) (arguments_stop (written c.args.function.now) c.args.arguments.now 0 c.in_err-applied.ensures.core)
+
+pub application-returns-clause-scope : goal.application-returns-clause-scope
+application-returns-clause-scope t c = c.loop-mark.invariant.1
+
+pub application-returns-clause-core : goal.application-returns-clause-core
+application-returns-clause-core t c =
+    subst (λ xs. IsReading (laws_entries c.args.setting.now.context.now.entries) (variables_for c.args.setting.now.context.now.levels c.args.setting.now.places.now)
+      c.args.scope.now (applied (written c.args.function.now) (map written_argument xs)) c.loop-mark.applied)
+    (take_all c.loop-mark.mark-index c.args.arguments.now c.loop-mark-test.false) c.loop-mark.invariant.0
