@@ -1,0 +1,11 @@
+pub mod PartLemmas
+pub mod ReadyLemmas
+pub mod BinderLemmas
+pub mod ValueLemmas
+pub mod EntryLemmas
+pub mod UniverseLemmas
+pub mod ScopeLemmas
+pub mod AnnotationLemmas
+pub mod SizeLemmas
+pub mod RunLemmas
+pub mod CallLemmas

@@ -1,0 +1,102 @@
+-- The places of written `Type`s, and their level variables.
+use Rattle.std.proofs.Common.{◌≡◌, ℕ, zero, suc, ◌+◌, ◌≤◌, ◌<◌, Bool, true, false, ◌||◌, nat_eq, if◌then◌else◌, List, [], ◌∷◌, ◌++◌, length, map, take, get_or, position, Option, Some, None, option_map, IsSome, refl, sym, ap, ◌∙◌, subst, arith}
+use Rattle.std.specs.List.{AllByRecursion, list_any}
+use Rattle.std.proofs.lemmas.List.{append_assoc, append-nil, map-append, take_more}
+use Rattle.std.proofs.lemmas.List.Folds.{list_any-append}
+use Rattle.lego_base.specs.declared.place.Place.{Place}
+use Rattle.lego_term.specs.declared.binder.Mark.{Mark}
+use Rattle.lego_grammar.specs.declared.surface.Part.{Part}
+use Rattle.lego_grammar.specs.declared.surface.Surface.{Surface}
+use Rattle.lego_grammar.specs.Written.{Written}
+use Rattle.lego_grammar.specs.Surface.{written, applied, projected}
+use Rattle.lego_context.specs.Contexts.{Contents}
+use Rattle.lego_context.specs.Changes.{with_universe}
+use Rattle.lego_reading.specs.Universes.{type_places, is_place, with_place, with_places, places_of, variables_for, with_universes}
+use Rattle.lego_reading.specs.private.Binders.{written_argument}
+use Rattle.lego_reading.proofs.EntryLemmas.{position-cons}
+
+pub places-append : (held xs ys : List Place) → with_places held (xs ++ ys) ≡ with_places (with_places held xs) ys
+places-append held [] ys = refl
+places-append held (x ∷ xs) ys = places-append (with_place held x) xs ys
+
+pub universes-push : (c : Contents) (ps : List Place) (p : Place) → with_universes c (ps ++ p ∷ []) ≡ with_universe (with_universes c ps) p
+universes-push c [] p = refl
+universes-push c (x ∷ ps) p = universes-push (with_universe c x) ps p
+
+pub applied-push : (f : Written) (xs : List (Mark × Written)) (x : Mark × Written) → applied f (xs ++ x ∷ []) ≡ Written.Apply x.0 (applied f xs) x.1
+applied-push f [] x = refl
+applied-push f (y ∷ xs) x = applied-push (Written.Apply y.0 f y.1) xs x
+
+pub projected-push : (m : Written) (parts : List Part) (part : Part) → projected m (parts ++ part ∷ []) ≡ Written.Project part (projected m parts)
+projected-push m [] part = refl
+projected-push m (p ∷ parts) part = projected-push (Written.Project p m) parts part
+
+pub projected-places : (m : Written) (parts : List Part) → type_places (projected m parts) ≡ type_places m
+projected-places m [] = refl
+projected-places m (part ∷ parts) = projected-places (Written.Project part m) parts
+
+-- one argument more
+pub arguments-push : (f : Written) (xs : List (Mark × Surface)) (i : ℕ) (d : Mark × Surface) → i < length xs
+    → applied f (map written_argument (take (i + 1) xs))
+    ≡ Written.Apply (get_or xs i d).0 (applied f (map written_argument (take i xs))) (written (get_or xs i d).1)
+arguments-push f xs i d l =
+    ap (λ ys. applied f (map written_argument ys)) (take_more xs i d l) ∙ ap (applied f) (map-append written_argument (take i xs) (get_or xs i d ∷ []))
+    ∙ applied-push f (map written_argument (take i xs)) (written_argument (get_or xs i d))
+
+is_itself : (p : Place) → is_place p p ≡ true
+is_itself p = rw (itself p.line, itself p.column) refl
+  where
+    itself : (n : ℕ) → nat_eq n n ≡ true
+    itself zero = refl
+    itself (suc n) = itself n
+
+or_left : (a b : Bool) → a ≡ true → (a || b) ≡ true
+or_left true b h = refl
+or_left false b h = cc
+
+or_right : (a b : Bool) → b ≡ true → (a || b) ≡ true
+or_right true b h = refl
+or_right false b h = h
+
+module _ (q : Place → Bool) where
+  any_kept : (held : List Place) (p : Place) → list_any q held ≡ true → list_any q (with_place held p) ≡ true
+  any_kept held p h =
+      elim (list_any (is_place p) held) as (λ b. list_any q (if b then held else held ++ p ∷ []) ≡ true) [
+        | true ↦ h
+        | false ↦ list_any-append q held (p ∷ []) ∙ or_left (list_any q held) (list_any q (p ∷ [])) h
+      ]
+
+  any_stays : (held ps : List Place) → list_any q held ≡ true → list_any q (with_places held ps) ≡ true
+  any_stays held [] h = h
+  any_stays held (p ∷ ps) h = any_stays (with_place held p) ps (any_kept held p h)
+
+  position_found : (n : ℕ) (ps : List Place) → list_any q ps ≡ true → IsSome (option_map (λ i. n + i) (position q ps))
+  position_found n ps h = found ps n h
+    where
+      mapped : (o : Option ℕ) (f : ℕ → ℕ) → IsSome o → IsSome (option_map f o)
+      mapped (Some i) f h = tt
+      mapped None f h = h
+      there : (ps : List Place) → list_any q ps ≡ true → IsSome (position q ps)
+      there [] h = cc
+      there (p ∷ ps) h =
+          subst IsSome (sym (position-cons q p ps))
+          (elim (q p) as (λ b. (b || list_any q ps) ≡ true → IsSome (if b then Some 0 else option_map suc (position q ps))) [
+            | true ↦ λ e. tt
+            | false ↦ λ e. mapped (position q ps) suc (there ps e)
+          ] h)
+      found : (ps : List Place) (n : ℕ) → list_any q ps ≡ true → IsSome (option_map (λ i. n + i) (position q ps))
+      found ps n h = mapped (position q ps) (λ i. n + i) (there ps h)
+
+taken : (held : List Place) (p : Place) → list_any (is_place p) (with_place held p) ≡ true
+taken held p =
+    elim (list_any (is_place p) held) as (λ b. list_any (is_place p) held ≡ b → list_any (is_place p) (if b then held else held ++ p ∷ []) ≡ true) [
+      | true ↦ λ e. e
+      | false ↦ λ e.
+          list_any-append (is_place p) held (p ∷ [])
+          ∙ or_right (list_any (is_place p) held) (list_any (is_place p) (p ∷ [])) (or_left (is_place p p) false (is_itself p))
+    ] refl
+
+pub all_held : (n : ℕ) (held ps : List Place) → AllByRecursion (λ p. IsSome (variables_for n (with_places held ps) p)) ps
+all_held n held [] = tt
+all_held n held (p ∷ ps) =
+    (position_found (is_place p) n (with_places (with_place held p) ps) (any_stays (is_place p) (with_place held p) ps (taken held p)), all_held n (with_place held p) ps)
