@@ -1,10 +1,14 @@
--- Names by their numbers.
-use Rattle.std.specs.Prelude.{◌≡◌, ℕ, List, [], Option, Some, IfSome, slice_get, unwrap_or, All}
+-- Names by their numbers, and what a session keeps of the names that its entries have.
+use Rattle.std.specs.Prelude.{◌≡◌, ℕ, List, [], Option, Some, None, IfSome, slice_get, unwrap_or, All}
 use Rattle.std.specs.List.{AllByRecursion}
-use Rattle.lego_term.specs.Trees.{Core, Var, Const, Prop, Univ, Pi, Lam, App, Sigma, Pair, Fst, Snd, Let}
+use Rattle.lego_term.specs.declared.binder.Binder.{Binder}
+use Rattle.lego_term.specs.declared.binder.Mark.TheVariants.{Plain}
 use Rattle.lego_lexer.specs.Tokens.{Name, token_of}
 use Rattle.lego_grammar.specs.Grammar.{Names}
-use Rattle.lego_kernel.specs.declared.entry.Entry.{Entry}
+use Rattle.lego_grammar.specs.Written.{WrittenKind, Assumed, Defined, WrittenBinding}
+use Rattle.lego_inference.specs.declared.entry.Entry.{Entry as Item}
+use Rattle.lego_context.specs.Contexts.{Contents}
+use Rattle.lego_reading.specs.Binders.{EachBinder, EachWrittenBinder}
 use Rattle.lego_session.specs.Sessions.{Session, HoldsThroughout}
 
 -- the text of a number
@@ -25,29 +29,31 @@ AreHeld names ns = AllByRecursion (IsHeldName names) ns
 abbrev pub IsHeldWhere : Names → Option ℕ → Type 0
 IsHeldWhere names name = IfSome name (IsHeldName names)
 
--- the names of the term's binders are held
-abbrev pub AreBindersHeld : Names → Core → Type 0
-AreBindersHeld names (Var i) = Unit {0}
-AreBindersHeld names (Const k) = Unit {0}
-AreBindersHeld names Prop = Unit {0}
-AreBindersHeld names (Univ l) = Unit {0}
-AreBindersHeld names (Pi x a b) = IsHeldWhere names x.name × AreBindersHeld names a × AreBindersHeld names b
-AreBindersHeld names (Lam x a m) = IsHeldWhere names x.name × AreBindersHeld names a × AreBindersHeld names m
-AreBindersHeld names (App mark m n) = AreBindersHeld names m × AreBindersHeld names n
-AreBindersHeld names (Sigma x a b) = IsHeldWhere names x.name × AreBindersHeld names a × AreBindersHeld names b
-AreBindersHeld names (Pair x a b m n) =
-    IsHeldWhere names x.name × AreBindersHeld names a × AreBindersHeld names b × AreBindersHeld names m × AreBindersHeld names n
-AreBindersHeld names (Fst m) = AreBindersHeld names m
-AreBindersHeld names (Snd m) = AreBindersHeld names m
-AreBindersHeld names (Let x m n) = IsHeldWhere names x.name × AreBindersHeld names m × AreBindersHeld names n
+-- the binder is plain, and its name is held
+pub record IsKnownBinder (names : Names) (x : Binder) : Type 0 where
+  pub held : IsHeldWhere names x.name
+  pub plain : x.mark ≡ Plain
 
--- each name that occurs in the entry, as its own or as a binder's, is held
-abbrev pub IsKnown : Names → Entry → Type 0
-IsKnown names e = IsHeldWhere names e.name × AreBindersHeld names e.ty
+-- the entry is plain, and each name that occurs in it, as its own or as a binder's, is held
+pub record IsKnown (names : Names) (e : Item) : Type 0 where
+  pub name : IsHeldWhere names e.name
+  pub plain : e.mark ≡ Plain
+  pub ty : EachBinder (IsKnownBinder names) e.ty
+  pub body : IfSome e.body (EachBinder (IsKnownBinder names))
 
-abbrev pub AreKnown : Names → List Entry → Type 0
-AreKnown names es = All (IsKnown names) es
+abbrev pub AreKnown : Names → Contents → Type 0
+AreKnown names c = All (IsKnown names) c.entries
 
 -- so of the entries of the present state and of the history's states
 abbrev pub IsKnownSession : Names → Session → Type 0
 IsKnownSession names s = HoldsThroughout (AreKnown names) s
+
+-- the names of the binders in the written terms are held
+abbrev pub AreKindHeld : Names → WrittenKind → Type 0
+AreKindHeld names (Assumed mark t) = EachWrittenBinder (λ x. IsHeldWhere names x.name) t
+AreKindHeld names (Defined m None) = EachWrittenBinder (λ x. IsHeldWhere names x.name) m
+AreKindHeld names (Defined m (Some t)) = EachWrittenBinder (λ x. IsHeldWhere names x.name) m × EachWrittenBinder (λ x. IsHeldWhere names x.name) t
+
+-- the names that bindings make, and those in their written terms, are held
+abbrev pub AreBoundHeld : Names → List WrittenBinding → Type 0
+AreBoundHeld names bs = AllByRecursion (λ b. AreHeld names b.names × AreKindHeld names b.kind) bs

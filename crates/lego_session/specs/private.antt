@@ -2,9 +2,8 @@ pub mod Binding
 pub mod Gathered
 pub mod Parts
 pub mod Pending
-pub mod Printable
 pub mod Progress
-pub mod Reading
 pub mod Refusals
 pub mod SessionCode
+pub mod Shown
 pub mod Unread

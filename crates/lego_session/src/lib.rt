@@ -2,15 +2,16 @@
 #![tactic(auto)]
 
 mod answers;
+mod built;
 mod closing;
 mod command_text;
 mod commands;
+mod entries;
 mod gathered;
 mod laws;
 mod parts;
 mod pending;
 mod progress;
-mod reading;
 mod refusal;
 mod refusal_text;
 mod running;
@@ -18,8 +19,8 @@ mod session;
 mod status;
 mod text;
 
+pub use built::is_built;
 pub use laws::{outcomes_are_one, runs_have_one_output, steps_have_one_reply};
-pub use reading::is_built;
 pub use refusal::{Cause, Refusal};
 pub use running::run;
 pub use session::{Answer, Session};

@@ -27,7 +27,7 @@ impl Parts {
         ensures counts { IfOk result (λ answer. answer.step ≡ false) }
         ensures cause { (limit : ℕ) → IfErr result (λ refusal. IsRefusal names.now limit (session_of self.old) (record { place = place; act = Undo count }) refusal.place refusal.cause refusal.text) }
         ensures err { OnErr result ((self.new.state ≡ self.old.state) × (self.new.history ≡ self.old.history)) }
-        ensures goes { GoesWith self.new.history self.new.state }
+        ensures still_goes { GoesWith self.new.history self.new.state }
     {
         let Ok(text) = undone_text(self.alloc, count) else {
             return Err(Refusal::memory(self.alloc, place));
