@@ -1,5 +1,5 @@
 -- Names by their numbers, and what a session keeps of the names that its entries have.
-use Rattle.std.specs.Prelude.{◌≡◌, ℕ, List, [], Option, Some, None, IfSome, slice_get, unwrap_or, All}
+use Rattle.std.specs.Prelude.{◌≡◌, ℕ, List, Option, Some, None, IfSome, slice_get, All}
 use Rattle.std.specs.List.{AllByRecursion}
 use Rattle.lego_term.specs.declared.binder.Binder.{Binder}
 use Rattle.lego_term.specs.declared.binder.Mark.TheVariants.{Plain}
@@ -10,10 +10,6 @@ use Rattle.lego_inference.specs.declared.entry.Entry.{Entry as Item}
 use Rattle.lego_context.specs.Contexts.{Contents}
 use Rattle.lego_reading.specs.Binders.{EachBinder, EachWrittenBinder}
 use Rattle.lego_session.specs.Sessions.{Session, HoldsThroughout}
-
--- the text of a number
-abbrev pub name_text : Names → ℕ → List ℕ
-name_text names n = unwrap_or (slice_get names n) []
 
 -- the number is held, and its text is a name
 pub record IsHeldName (names : Names) (n : ℕ) : Type 0 where

@@ -1,5 +1,6 @@
 //! Refusals of commands.
 ghost use Rattle.std.specs.Prelude.{◌≡◌, []};
+ghost use Rattle.lego_context.specs.Entries.{HasNoHole};
 ghost use Rattle.lego_session.specs.Causes.{IsTold, read_place, read_cause, cause_of};
 ghost use Rattle.lego_session.specs.private.Refusals.{IsRefusalOf, reduce_cause};
 
@@ -209,6 +210,7 @@ impl Refusal {
         place: Place,
         cause: Cause,
     ) -> Refusal
+        requires { HasNoHole context.now.entries }
         ensures { IsRefusalOf names.now context.now.entries place cause result.place result.cause result.text }
     {
         if let Cause::Memory = cause {

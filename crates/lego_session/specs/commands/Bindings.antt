@@ -19,7 +19,7 @@ use Rattle.lego_reading.specs.Universes.{with_types_of}
 use Rattle.lego_reading.specs.declared.fault.ReadFault.{ReadFault}
 use Rattle.lego_session.specs.Causes.{read_place, read_cause, cause_of}
 use Rattle.lego_session.specs.Sessions.{Session, context_of, entries_of, moved_to}
-use Rattle.lego_session.specs.Texts.{entry_lines}
+use Rattle.lego_session.specs.Texts.{AreEntryLines}
 use Rattle.lego_session.specs.declared.refusal.Cause.{Cause}
 use Rattle.lego_session.specs.declared.refusal.Cause.TheVariants.{NameInUse}
 
@@ -104,4 +104,4 @@ pub record AddsBindings (names : Names) (old : Session) (bs : List WrittenBindin
   pub moves : new ≡ moved_to old context
   pub values : Assignment
   pub settled : IsSettled context [] context.levels values
-  pub is_text : text ≡ entry_lines names values context.entries (length (entries_of old))
+  pub lines : AreEntryLines names values context.entries (length (entries_of old)) text

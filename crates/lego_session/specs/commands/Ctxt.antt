@@ -4,10 +4,10 @@ use Rattle.lego_term.specs.Levels.{Assignment}
 use Rattle.lego_grammar.specs.Grammar.{Names}
 use Rattle.lego_context.specs.Contexts.{Contents}
 use Rattle.lego_context.specs.Settling.{IsSettled}
-use Rattle.lego_session.specs.Texts.{entry_lines}
+use Rattle.lego_session.specs.Texts.{AreEntryLines}
 
 -- the answer is the line of each entry, at the least levels
 pub record ShowsContext (names : Names) (c : Contents) (text : List ℕ) : Type 0 where
   pub values : Assignment
   pub settled : IsSettled c [] c.levels values
-  pub is_text : text ≡ entry_lines names values c.entries 0
+  pub lines : AreEntryLines names values c.entries 0 text

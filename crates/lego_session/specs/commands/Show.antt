@@ -21,7 +21,7 @@ use Rattle.lego_reading.specs.Calls.{IsCoreOf, IsUnread}
 use Rattle.lego_reading.specs.Universes.{with_types_of}
 use Rattle.lego_reading.specs.declared.fault.ReadFault.{ReadFault}
 use Rattle.lego_session.specs.Causes.{read_place, read_cause, cause_of}
-use Rattle.lego_session.specs.Texts.{typing_line, term_line}
+use Rattle.lego_session.specs.Texts.{IsTypingLine, IsTermLine}
 use Rattle.lego_session.specs.declared.refusal.Cause.{Cause}
 use Rattle.lego_session.specs.declared.refusal.Cause.TheVariants.{Budget, TooLarge}
 
@@ -37,7 +37,7 @@ pub record ShowsType (names : Names) (c : Contents) (place : Place) (m : Written
   pub judged : Judged
   pub values : Assignment
   pub typed : IsTyped c place m core judged values
-  pub is_text : text ≡ typing_line names values c.entries core judged.ty
+  pub line : IsTypingLine names values c.entries core judged.ty text
 
 -- why the term has no type: it isn't read, or its typing is refused
 pub data HasNoType (limit : ℕ) (c : Contents) (place : Place) (m : Written) : Place → Cause → Type 0 where
@@ -65,7 +65,7 @@ pub record ShowsForm (form : Form) (names : Names) (limit : ℕ) (c : Contents) 
   pub reached : Core
   pub ends : Ends (step_to form c.entries) core steps reached
   pub within : steps ≤ limit
-  pub is_text : text ≡ term_line names values c.entries reached
+  pub line : IsTermLine names values c.entries reached text
 
 -- Why the form isn't shown: the term has no type; or it has one, and its sequence has more steps than the limit, or reaches within
 -- the limit a term that is too large.

@@ -15,22 +15,24 @@ use Rattle.lego_inference.specs.declared.fault.TypeFault.{TypeFault}
 use Rattle.lego_context.specs.Causes.{AddFails}
 use Rattle.lego_context.specs.Changes.{type_task}
 use Rattle.lego_context.specs.Contexts.{Contents}
+use Rattle.lego_context.specs.Entries.{HasNoHole}
 use Rattle.lego_context.specs.Settling.{IsSettled}
 use Rattle.lego_reading.specs.Calls.{IsCoreOf, IsUnread}
 use Rattle.lego_reading.specs.Readable.{CanKindBeRead}
 use Rattle.lego_reading.specs.Universes.{with_types_of}
 use Rattle.lego_reading.specs.declared.fault.ReadFault.{ReadFault}
 use Rattle.lego_session.specs.Causes.{read_place, read_cause, cause_of}
-use Rattle.lego_session.specs.Texts.{entry_lines}
+use Rattle.lego_session.specs.Texts.{AreEntryLines}
 use Rattle.lego_session.specs.commands.Bindings.{AreNew, FirstAreNew, IsNew, AssumesAll, ReadsDefinition, AreEntriesRefused, IsBindingRefused, AreRefused}
 use Rattle.lego_session.specs.declared.refusal.Cause.{Cause}
 use Rattle.lego_session.specs.declared.refusal.Cause.TheVariants.{Memory}
 use Rattle.lego_session.specs.declared.refusal.Reason.{Reason}
 
--- entries, universes and level variables were added, and none was taken away
+-- entries that are no holes, universes and level variables were added, and none was taken away
 pub record Extends (old new : Contents) : Type 0 where
   pub more : List Item
   pub entries : new.entries ≡ old.entries ++ more
+  pub no_hole : HasNoHole more
   pub written : List Universe
   pub universes : new.universes ≡ old.universes ++ written
   pub levels : old.levels ≤ new.levels
@@ -108,4 +110,4 @@ ReadsWholeDefinition old m t asked new (Err reason) = EntriesFail asked.limit ol
 pub record ShowsAdded (names : Names) (c : Contents) (from : ℕ) (text : List ℕ) : Type 0 where
   pub values : Assignment
   pub settled : IsSettled c [] c.levels values
-  pub is_text : text ≡ entry_lines names values c.entries from
+  pub lines : AreEntryLines names values c.entries from text

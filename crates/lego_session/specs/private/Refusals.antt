@@ -1,5 +1,5 @@
 -- What the making of a refusal answers.
-use Rattle.std.specs.Prelude.{◌≡◌, ◌⊎◌, ℕ, List, [], None}
+use Rattle.std.specs.Prelude.{◌≡◌, ◌⊎◌, ℕ, List, [], None, false, Result, Ok, Err}
 use Rattle.lego_base.specs.declared.place.Place.{Place}
 use Rattle.lego_term.specs.Trees.{Core}
 use Rattle.lego_grammar.specs.Grammar.{Names}
@@ -8,6 +8,9 @@ use Rattle.lego_reduce.specs.declared.fault.ReduceFault.{ReduceFault}
 use Rattle.lego_reduce.specs.declared.fault.ReduceFault.TheVariants as Reduce
 use Rattle.lego_session.specs.Refusals.{refusal_text}
 use Rattle.lego_session.specs.declared.refusal.Cause.{Cause}
+use Rattle.lego_session.specs.declared.refusal.Reason.{Reason}
+use Rattle.lego_session.specs.declared.refusal.Refusal.{Refusal}
+use Rattle.lego_session.specs.declared.session.Answer.{Answer}
 use Rattle.lego_session.specs.declared.refusal.Cause.TheVariants.{TooFar, Budget, TooLarge, Memory}
 use Rattle.lego_undo.specs.declared.undo_fault.UndoFault.{UndoFault}
 use Rattle.lego_undo.specs.declared.undo_fault.UndoFault.TheVariants as Undo
@@ -33,7 +36,7 @@ IsRefusedSo names es So p cause text =
     ((cause ≡ Memory) × (text ≡ [])) ⊎ (So p cause × (cause ≡ Memory → ⊥) × (text ≡ refusal_text names es p cause))
 
 -- what a command that only prints answers, from its text, or from why there is none
-abbrev pub IsAnswerOf : Names → List Item → Result (VecModel) Reason → Result Answer Refusal → Type 0
+abbrev pub IsAnswerOf : Names → List Item → Result (Vec Byte) Reason → Result Answer Refusal → Type 0
 IsAnswerOf names es (Ok text) (Ok answer) = (answer.step ≡ false) × (answer.text ≡ text.items)
 IsAnswerOf names es (Err reason) (Err refusal) = IsRefusalOf names es reason.place reason.cause refusal.place refusal.cause refusal.text
 IsAnswerOf names es _ _ = ⊥

@@ -13,7 +13,7 @@ ghost use Rattle.lego_session.specs.private.Binding.{AreRight, IsRight, IsFirstU
 ghost use Rattle.lego_session.specs.private.Parts.{session_of};
 
 use crate::commands::entries::{assume, define};
-use crate::entries::entry_lines;
+use crate::text::entry_lines;
 use crate::parts::Parts;
 use crate::refusal::{Cause, Reason, Refusal};
 use crate::session::Answer;
@@ -63,6 +63,7 @@ impl Parts {
     /// Notes what was added behind an extent as a step, and gives a line for each new entry.
     fn note_added(&mut self, names: &Names, extent: Extent) -> Result<Vec<u8>, AllocError>
         requires within { HasExtent extent self.old.state }
+        requires no_hole { HasNoHole self.old.state.context.entries }
         requires goes { GoesWith self.old.history (front extent self.old.state) }
         ensures text { IfOk result (λ text. ShowsAdded names.now self.old.state.context extent.entries text.items) }
         ensures noted { OnOk result (Notes self.old.history (front extent self.old.state) self.old.state self.new.history) }

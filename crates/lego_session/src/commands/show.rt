@@ -1,5 +1,6 @@
 //! A term as a command, `Hnf` and `Normal`: its type, its head form, its normal form.
 ghost use Rattle.std.specs.Prelude.{◌≡◌, false, OnErr, IfOk, IfErr};
+ghost use Rattle.lego_context.specs.Entries.{HasNoHole};
 ghost use Rattle.lego_grammar.specs.Surface.{written};
 ghost use Rattle.lego_reading.specs.Calls.{CanBeRead};
 ghost use Rattle.lego_session.specs.commands.Show.{ShowsType, ShowsForm, HasNoType, HasNoForm};
@@ -8,7 +9,7 @@ ghost use Rattle.lego_session.specs.private.Refusals.{IsRefusedSo, IsAnswerOf};
 ghost use Rattle.lego_session.specs.private.Shown.{TypingFailsSo, FormFails, ReachesForm, TypesSo, form_of};
 
 use crate::commands::terms::read_at;
-use crate::entries::{term_line, typing_line};
+use crate::text::{term_line, typing_line};
 use crate::parts::Parts;
 use crate::refusal::{Reason, Refusal};
 use crate::session::Answer;
@@ -35,7 +36,8 @@ impl Parts {
         term: &Surface,
         asked: At,
     ) -> Result<Answer, Refusal>
-        requires { CanBeRead (written term.now) }
+        requires read { CanBeRead (written term.now) }
+        requires no_hole { HasNoHole self.old.state.context.entries }
         ensures ok { IfOk result (λ answer. ShowsType names.now self.old.state.context asked.place (written term.now) answer.text) }
         ensures counts { IfOk result (λ answer. answer.step ≡ false) }
         ensures cause { IfErr result (λ refusal. IsRefusedSo names.now self.old.state.context.entries (HasNoType asked.limit self.old.state.context asked.place (written term.now)) refusal.place refusal.cause refusal.text) }
@@ -55,7 +57,8 @@ impl Parts {
         term: &Surface,
         asked: At,
     ) -> Result<Answer, Refusal>
-        requires { CanBeRead (written term.now) }
+        requires read { CanBeRead (written term.now) }
+        requires no_hole { HasNoHole self.old.state.context.entries }
         ensures ok { IfOk result (λ answer. ShowsForm (form_of form) names.now asked.limit self.old.state.context asked.place (written term.now) answer.text) }
         ensures counts { IfOk result (λ answer. answer.step ≡ false) }
         ensures cause { IfErr result (λ refusal. IsRefusedSo names.now self.old.state.context.entries (HasNoForm (form_of form) asked.limit self.old.state.context asked.place (written term.now)) refusal.place refusal.cause refusal.text) }
@@ -69,6 +72,7 @@ impl Parts {
 
     /// The answer of a command that only prints, or its refusal over the entries as they are.
     fn answer(&self, names: &Names, shown: Result<Vec<u8>, Reason>) -> Result<Answer, Refusal>
+        requires { HasNoHole self.now.state.context.entries }
         ensures { IsAnswerOf names.now self.now.state.context.entries shown result }
     {
         match shown {
@@ -89,7 +93,8 @@ fn typing(
     term: &Surface,
     asked: At,
 ) -> Result<Vec<u8>, Reason>
-    requires { CanBeRead (written term.now) }
+    requires read { CanBeRead (written term.now) }
+    requires no_hole { HasNoHole context.old.entries }
     ensures ok { IfOk result (λ text. ShowsType names.now context.old asked.place (written term.now) text.items) }
     ensures cause { IfErr result (TypingFailsSo asked.limit context.old asked.place (written term.now)) }
     ensures extends { Extends context.old context.new }
@@ -111,7 +116,8 @@ fn form_text(
     term: &Surface,
     asked: At,
 ) -> Result<Vec<u8>, Reason>
-    requires { CanBeRead (written term.now) }
+    requires read { CanBeRead (written term.now) }
+    requires no_hole { HasNoHole context.old.entries }
     ensures ok { IfOk result (λ text. ShowsForm (form_of form) names.now asked.limit context.old asked.place (written term.now) text.items) }
     ensures cause { IfErr result (FormFails (form_of form) asked.limit context.old asked.place (written term.now)) }
     ensures extends { Extends context.old context.new }
