@@ -1,5 +1,6 @@
 -- What the calls ask, and what they answer.
 use Rattle.std.specs.Prelude.{◌≡◌, ℕ, ◌<◌, ◌≤◌, List, [], map, length, Option, IfSome, Result, Ok, Err}
+use Rattle.std.specs.List.{AllByRecursion}
 use Rattle.lego_base.specs.declared.place.Place.{Place}
 use Rattle.lego_term.specs.declared.binder.Mark.{Mark}
 use Rattle.lego_term.specs.declared.level.Level.{Level}
@@ -21,16 +22,18 @@ use Rattle.lego_inference.specs.Calls.{IsTermOver, task_over}
 use Rattle.lego_inference.specs.Entries.{laws_entries}
 use Rattle.lego_inference.specs.Failures.{TypeFails}
 use Rattle.lego_inference.specs.Inferred.{AreGathered}
-use Rattle.lego_inference.specs.Locals.{types_of}
+use Rattle.lego_inference.specs.Locals.{types_of, NamesEntries}
 use Rattle.lego_context.specs.Entries.{HasNoHole}
 use Rattle.lego_context.specs.Contexts.{Contents}
 use Rattle.lego_context.specs.Causes.{IsNewName, AddFails}
 use Rattle.lego_context.specs.Changes.{type_task, body_task, IsAssumed, IsDefined, with_universe, with_levels}
 
--- the local types are types in order, at each assignment that satisfies the context's constraints, over levels that it holds
+-- The local types are types in order, at each assignment that satisfies the context's constraints. They name only entries, and
+-- level variables that the context holds, and their levels are small.
 pub record AreLocals (c : Contents) (locals : List Local) : Type 0 where
   pub types : (v : Assignment) → SatisfiesAll v (kept (laws_entries c.entries))
       → Valid (entries_at v (laws_entries c.entries)) (map (at v) (types_of locals))
+  pub names : AllByRecursion (NamesEntries (laws_entries c.entries)) (types_of locals)
   pub levels : locals_bound (types_of locals) ≤ c.levels
   pub few : length locals ≤ 61536
 

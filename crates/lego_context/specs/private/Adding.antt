@@ -9,7 +9,7 @@ use Rattle.lego_laws.specs.Ranges.{levels_bound, pairs_bound}
 use Rattle.lego_level.specs.declared.constraint.Constraint.{Constraint}
 use Rattle.lego_level.specs.declared.fault.GraphFault.{GraphFault}
 use Rattle.lego_level.specs.declared.fault.GraphFault.TheVariants as graph
-use Rattle.lego_level.specs.Graphs.{pairs_of, IsCycle, Forces, CanBeSatisfied, CanBeSatisfiedWithin}
+use Rattle.lego_level.specs.Graphs.{pairs_of, CanBeSatisfiedWithin}
 use Rattle.lego_inference.specs.declared.entry.At.{At}
 use Rattle.lego_inference.specs.declared.entry.Entry.{Entry as Item}
 use Rattle.lego_inference.specs.declared.entry.Judged.{Judged}
@@ -23,6 +23,7 @@ use Rattle.lego_inference.specs.Inferred.{AreGathered}
 use Rattle.lego_context.specs.Entries.{IsEntry, IsNoHole, HasNoHole, IsLeastFree}
 use Rattle.lego_context.specs.Contexts.{Contents, IsSmallEntry}
 use Rattle.lego_context.specs.Causes.{together, IsNewName}
+use Rattle.lego_context.specs.Settling.{IsUnsettled}
 use Rattle.lego_context.specs.Changes.{with_entry, body_task, FitsDefinition}
 
 -- an entry that can go behind those of a context, over so many level variables
@@ -53,11 +54,8 @@ refusal_of graph.Memory = Memory
 
 -- the constraints can't be satisfied, or only with too great values, or there is no room
 pub data StoreFails (es : List Item) (more : List Constraint) : TypeFault → Type 0 where
-  universe : {cycle : List Constraint}
-      → IsCycle (together es more) cycle → (CanBeSatisfied (together es more) → ⊥) → StoreFails es more (Universe cycle)
-  level_too_big : {c : Constraint} {needed : ℕ} → Forces (together es more) c needed → StoreFails es more (LevelTooBig c needed)
+  unsettled : {fault : TypeFault} → IsUnsettled (together es more) fault → StoreFails es more fault
   full : CanBeSatisfiedWithin (together es more) → length es ≡ 65536 → StoreFails es more (Full Entries 65536)
-  memory : StoreFails es more Memory
 
 abbrev pub Stores : Contents → Item → ℕ → Contents → Result (Unit {0}) TypeFault → Type 0
 Stores old e levels new (Ok done) =

@@ -4,7 +4,7 @@ use Rattle.lego_term.specs.Trees.{Core}
 use Rattle.lego_laws.specs.Places.{Task, BeAType}
 use Rattle.lego_inference.specs.Failures.{TypeFails}
 use Rattle.lego_inference.specs.Inferred as over
-use Rattle.lego_context.specs.Causes.{AddFails}
+use Rattle.lego_context.specs.Causes.{TypingFails, AddFails}
 use Rattle.lego_context.specs.Changes.{assumption}
 use Rattle.lego_context.specs.Contexts.{Contents, IsContext}
 use Rattle.lego_context.specs.Entries.{IsLeastFree}
@@ -24,13 +24,13 @@ returns-in_err-judged c =
     let f =
     at_context (λ (t : Task). TypeFails c.args.asked.limit t fault) (record { entries = c.self.inside.signature; universes = c.self.inside.universes.items; levels = c.self.inside.levels }) c.args.self.now
     c.new-locals.result c.args.ty.now BeAType c.new-locals.ensures c.self.view_is c.in_err-judged.ensures in
-    rw (e.1, e.2) (AddFails.check new f, refl)
+    rw (e.1, e.2) (AddFails.typing new (TypingFails.check f), refl)
 
 pub returns-in_err-share : goal.returns-in_err-share
 returns-in_err-share c =
     let e = err_from_is_err_and c.from_residual-in_err-share.result c.from_residual-in_err-share.ensures.1 in
     let new = new_name c.args.name c.args.self.now.entries (sym c.position.ensures ∙ c.in_default.is) in
-    rw (e.1, e.2) (AddFails.check new TypeFails.memory, refl)
+    rw (e.1, e.2) (AddFails.typing new (TypingFails.check TypeFails.memory), refl)
 
 pub store-requires : goal.store-requires
 store-requires c =
