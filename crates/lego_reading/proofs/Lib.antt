@@ -9,3 +9,6 @@ pub mod AnnotationLemmas
 pub mod SizeLemmas
 pub mod RunLemmas
 pub mod CallLemmas
+pub mod ReadableLemmas
+pub mod NodeLemmas
+pub mod CoreLemmas

@@ -16,14 +16,14 @@ use Rattle.lego_reading.specs.private.Variables.{AreOver}
 use Rattle.lego_reading.specs.private.Parts.{IsReady}
 use Rattle.lego_reading.specs.private.Binders.{inner_scope}
 
-module _ {P : Place → Type 0} where
-  left : (xs ys : List Place) → AllByRecursion P (xs ++ ys) → AllByRecursion P xs
-  left [] ys h = tt
-  left (x ∷ xs) ys h = (h.0, left xs ys h.1)
+module _ {X : Type 0} (P : X → Type 0) where
+  pub every_left : (xs ys : List X) → AllByRecursion P (xs ++ ys) → AllByRecursion P xs
+  every_left [] ys h = tt
+  every_left (x ∷ xs) ys h = (h.0, every_left xs ys h.1)
 
-  right : (xs ys : List Place) → AllByRecursion P (xs ++ ys) → AllByRecursion P ys
-  right [] ys h = h
-  right (x ∷ xs) ys h = right xs ys h.1
+  pub every_right : (xs ys : List X) → AllByRecursion P (xs ++ ys) → AllByRecursion P ys
+  every_right [] ys h = h
+  every_right (x ∷ xs) ys h = every_right xs ys h.1
 
 pub length-inner : (scope : Scope) (names : List ℕ) → length (inner_scope scope names) ≡ length names + length scope
 length-inner scope [] = refl
@@ -42,7 +42,7 @@ module _ {c : Contents} {places : List Place} where
       → length front ≤ length names → IsReady c places scope (Written.Bind kind mark names s t) → IsReady c places (inner_scope scope front) s
   ready_domain {scope} {names = names} {s = s} {t = t} front le r = record {
     few = let f = r.few in let l = length-inner scope front in omega arith;
-    held = left (type_places s) (type_places t) r.held;
+    held = every_left _ (type_places s) (type_places t) r.held;
     room = r.room;
     over = over-inner scope front r.over;
   }
@@ -51,27 +51,27 @@ module _ {c : Contents} {places : List Place} where
       → IsReady c places scope (Written.Bind kind mark names s t) → IsReady c places (inner_scope scope names) t
   ready_body {scope} {names = names} {s = s} {t = t} r = record {
     few = let f = r.few in let l = length-inner scope names in omega arith;
-    held = right (type_places s) (type_places t) r.held;
+    held = every_right _ (type_places s) (type_places t) r.held;
     room = r.room;
     over = over-inner scope names r.over;
   }
 
   pub ready_nameless : {scope : Scope} {kind : Kind} {mark : Mark} {s t : Written}
       → IsReady c places scope (Written.Bind kind mark [] s t) → IsReady c places (LocalVariable.Bound None ∷ scope) t
-  ready_nameless {s = s} {t = t} r = record { few = let f = r.few in omega arith; held = right (type_places s) (type_places t) r.held; room = r.room; over = r.over }
+  ready_nameless {s = s} {t = t} r = record { few = let f = r.few in omega arith; held = every_right _ (type_places s) (type_places t) r.held; room = r.room; over = r.over }
 
   pub ready_value : {scope : Scope} {n : ℕ} {s t : Written} → IsReady c places scope (Written.Local n s t) → IsReady c places scope s
-  ready_value {s = s} {t = t} r = record { few = let f = r.few in omega arith; held = left (type_places s) (type_places t) r.held; room = r.room; over = r.over }
+  ready_value {s = s} {t = t} r = record { few = let f = r.few in omega arith; held = every_left _ (type_places s) (type_places t) r.held; room = r.room; over = r.over }
 
   pub ready_local : {scope : Scope} {n : ℕ} {s t : Written} {m : Core}
       → loose m ≤ length scope → IsReady c places scope (Written.Local n s t) → IsReady c places (LocalVariable.Defined n m ∷ scope) t
-  ready_local {s = s} {t = t} l r = record { few = let f = r.few in omega arith; held = right (type_places s) (type_places t) r.held; room = r.room; over = (l, r.over) }
+  ready_local {s = s} {t = t} l r = record { few = let f = r.few in omega arith; held = every_right _ (type_places s) (type_places t) r.held; room = r.room; over = (l, r.over) }
 
   pub ready_function : {scope : Scope} {mark : Mark} {s t : Written} → IsReady c places scope (Written.Apply mark s t) → IsReady c places scope s
-  ready_function {s = s} {t = t} r = record { few = let f = r.few in omega arith; held = left (type_places s) (type_places t) r.held; room = r.room; over = r.over }
+  ready_function {s = s} {t = t} r = record { few = let f = r.few in omega arith; held = every_left _ (type_places s) (type_places t) r.held; room = r.room; over = r.over }
 
   pub ready_argument : {scope : Scope} {mark : Mark} {s t : Written} → IsReady c places scope (Written.Apply mark s t) → IsReady c places scope t
-  ready_argument {s = s} {t = t} r = record { few = let f = r.few in omega arith; held = right (type_places s) (type_places t) r.held; room = r.room; over = r.over }
+  ready_argument {s = s} {t = t} r = record { few = let f = r.few in omega arith; held = every_right _ (type_places s) (type_places t) r.held; room = r.room; over = r.over }
 
   -- a function with its first arguments
   pub ready_applied : {scope : Scope} (f : Written) (xs : List (Mark × Written)) → IsReady c places scope (applied f xs) → IsReady c places scope f
@@ -84,10 +84,10 @@ module _ {c : Contents} {places : List Place} where
       let q = ready_projected (Written.Project part s) parts r in record { few = q.few; held = q.held; room = q.room; over = q.over }
 
   pub ready_type : {scope : Scope} {m n t : Written} → IsReady c places scope (Written.Pair m n t) → IsReady c places scope t
-  ready_type {m = m} {n = n} {t = t} r = record { few = let f = r.few in omega arith; held = left (type_places t) (type_places m ++ type_places n) r.held; room = r.room; over = r.over }
+  ready_type {m = m} {n = n} {t = t} r = record { few = let f = r.few in omega arith; held = every_left _ (type_places t) (type_places m ++ type_places n) r.held; room = r.room; over = r.over }
 
   pub ready_first : {scope : Scope} {m n t : Written} → IsReady c places scope (Written.Pair m n t) → IsReady c places scope m
-  ready_first {m = m} {n = n} {t = t} r = record { few = let f = r.few in omega arith; held = left (type_places m) (type_places n) (right (type_places t) (type_places m ++ type_places n) r.held); room = r.room; over = r.over }
+  ready_first {m = m} {n = n} {t = t} r = record { few = let f = r.few in omega arith; held = every_left _ (type_places m) (type_places n) (every_right _ (type_places t) (type_places m ++ type_places n) r.held); room = r.room; over = r.over }
 
   pub ready_second : {scope : Scope} {m n t : Written} → IsReady c places scope (Written.Pair m n t) → IsReady c places scope n
-  ready_second {m = m} {n = n} {t = t} r = record { few = let f = r.few in omega arith; held = right (type_places m) (type_places n) (right (type_places t) (type_places m ++ type_places n) r.held); room = r.room; over = r.over }
+  ready_second {m = m} {n = n} {t = t} r = record { few = let f = r.few in omega arith; held = every_right _ (type_places m) (type_places n) (every_right _ (type_places t) (type_places m ++ type_places n) r.held); room = r.room; over = r.over }

@@ -1,13 +1,14 @@
 -- What the call asks, and what it answers.
 use Rattle.std.specs.Prelude.{◌≡◌, ℕ, suc, max, ◌+◌, ◌<◌, ◌≤◌, [], length, Result, Ok, Err}
 use Rattle.lego_term.specs.Trees.{Core}
-use Rattle.lego_grammar.specs.Written.{Written, TypeAt, Bind, Local, Apply, Pair, Project}
+use Rattle.lego_grammar.specs.Written.{Written, Bind, Local, Apply, Pair, Project}
 use Rattle.lego_grammar.specs.ReadingOrder.{ReadsWithin}
 use Rattle.lego_inference.specs.Calls.{IsTermOver}
 use Rattle.lego_inference.specs.Entries.{laws_entries}
 use Rattle.lego_context.specs.Contexts.{Contents}
 use Rattle.lego_reading.specs.declared.fault.ReadFault.{ReadFault}
 use Rattle.lego_reading.specs.declared.fault.ReadFault.TheVariants.{Full, Memory}
+use Rattle.lego_reading.specs.Parts.{HasSmallLevels}
 use Rattle.lego_reading.specs.Universes.{places_of, variables_for, with_types_of}
 use Rattle.lego_reading.specs.Failures.{Fails}
 
@@ -20,16 +21,7 @@ locals_within (Pair m n t) = max (locals_within t) (max (locals_within m) (local
 locals_within (Project part s) = locals_within s
 locals_within _ = 0
 
--- each explicit level is at most 1,000,000
-abbrev pub HasSmallLevels : Written → Type 0
-HasSmallLevels (TypeAt n) = n ≤ 1000000
-HasSmallLevels (Bind kind mark names s t) = HasSmallLevels s × HasSmallLevels t
-HasSmallLevels (Local n s t) = HasSmallLevels s × HasSmallLevels t
-HasSmallLevels (Apply mark s t) = HasSmallLevels s × HasSmallLevels t
-HasSmallLevels (Pair m n t) = HasSmallLevels m × HasSmallLevels n × HasSmallLevels t
-HasSmallLevels (Project part s) = HasSmallLevels s
-HasSmallLevels _ = Unit {0}
-
+-- few enough local variables are in scope at once, and the explicit levels are small
 pub record CanBeRead (s : Written) : Type 0 where
   pub few : locals_within s ≤ 61536
   pub small : HasSmallLevels s

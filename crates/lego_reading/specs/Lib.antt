@@ -1,3 +1,4 @@
+pub mod Parts
 pub mod Universes
 pub mod Failures
 pub mod Calls

@@ -36,7 +36,7 @@ IsRefusedSo names es So p cause text =
     ((cause ≡ Memory) × (text ≡ [])) ⊎ (So p cause × (cause ≡ Memory → ⊥) × (text ≡ refusal_text names es p cause))
 
 -- what a command that only prints answers, from its text, or from why there is none
-abbrev pub IsAnswerOf : Names → List Item → Result (Vec Byte) Reason → Result Answer Refusal → Type 0
+abbrev pub IsAnswerOf : Names → List Item → Result (Vec ℕ Global) Reason → Result Answer Refusal → Type 0
 IsAnswerOf names es (Ok text) (Ok answer) = (answer.step ≡ false) × (answer.text ≡ text.items)
 IsAnswerOf names es (Err reason) (Err refusal) = IsRefusalOf names es reason.place reason.cause refusal.place refusal.cause refusal.text
 IsAnswerOf names es _ _ = ⊥
