@@ -6,6 +6,7 @@ mod built;
 mod closing;
 mod command_text;
 mod commands;
+mod development;
 mod entries;
 mod gathered;
 mod laws;
@@ -20,7 +21,7 @@ mod status;
 mod text;
 
 pub use built::is_built;
-pub use laws::{outcomes_are_one, runs_have_one_output, steps_have_one_reply};
+pub use laws::{runs_have_one_cut, steps_have_one_reply};
 pub use refusal::{Cause, Refusal};
 pub use running::run;
 pub use session::{Answer, Session};

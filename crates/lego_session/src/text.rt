@@ -1,17 +1,16 @@
-//! The texts of entries, terms and the development.
-ghost use Rattle.std.specs.Prelude.{◌≡◌, ◌≤◌, ◌++◌, [], decimal, drop, map, length, OnOk, IfOk};
+//! The texts of entries and terms.
+ghost use Rattle.std.specs.Prelude.{◌≡◌, ◌≤◌, ◌++◌, [], true, decimal, drop, length, is_some, OnOk, IfOk};
 ghost use Rattle.lego_context.specs.Entries.{HasNoHole};
-ghost use Rattle.lego_context.specs.Settling.{IsSettled};
 ghost use Rattle.lego_print.specs.Names.{name_text};
-ghost use Rattle.lego_session.specs.Texts.{AreEntryLines, IsTermLine, IsTypingLine, IsPrinted, listed};
-ghost use Rattle.lego_session.specs.private.Items.{AreItemsOf};
+ghost use Rattle.lego_session.specs.Texts.{AreEntryLines, IsTermLine, IsTypingLine};
+ghost use Rattle.lego_session.specs.private.Items.{IsItemOf, AreItemsOf};
 
 use crate::entries::Front;
 use itoa::Buffer;
 use lego_base::Names;
 use lego_context::Context;
 use lego_inference::Entry;
-use lego_print::{Item, Shown, Universe};
+use lego_print::{Item, Shown};
 use lego_term::{List, Seen, Term};
 use std::alloc::{AllocError, Global};
 
@@ -35,7 +34,7 @@ pub(crate) fn push_number(text: &mut Vec<u8>, number: u64) -> Result<(), AllocEr
 }
 
 /// The entries from a place on, as they are printed.
-fn items_from(
+pub(crate) fn items_from(
     alloc: Global,
     context: &Context,
     from: usize,
@@ -45,14 +44,18 @@ fn items_from(
     ensures { IfOk result (λ items. AreItemsOf items.items (drop from context.now.entries)) }
 {
     let mut items = Vec::new(alloc);
+    let _entries = context.len();
     for entry in &context.entries()[from..] {
         items.push(item_of(entry))?;
     }
     Ok(items)
 }
 
-/// An entry that is no hole, as it is printed.
-fn item_of(entry: &Entry) -> Item<'_> {
+/// An entry that has a name, as it is printed.
+fn item_of(entry: &Entry) -> Item<'_>
+    requires { is_some entry.now.name ≡ true }
+    ensures { IsItemOf result entry.now }
+{
     let Some(name) = entry.name else {
         unreachable!()
     };
@@ -63,20 +66,6 @@ fn item_of(entry: &Entry) -> Item<'_> {
         ty: &entry.ty,
         body: entry.body.as_ref(),
     }
-}
-
-/// The written `Type`s of a context, as a development lists them.
-fn universes_of(alloc: Global, context: &Context) -> Result<Vec<Universe>, AllocError>
-    ensures { IfOk result (λ us. us.items ≡ map listed context.now.universes) }
-{
-    let mut universes = Vec::new(alloc);
-    for universe in context.universes() {
-        universes.push(Universe {
-            variable: universe.variable,
-            place: universe.place,
-        })?;
-    }
-    Ok(universes)
 }
 
 /// The line of each entry from a place on, at these values of the level variables.
@@ -148,26 +137,4 @@ pub(crate) fn typing_line(
     let mut text = lego_print::typing_text(alloc, names, &front, &m, &ty, levels)?;
     text.extend_from_slice(b"\n")?;
     Ok(text)
-}
-
-/// The development of a context, at its least levels.
-pub(crate) fn development(
-    alloc: Global,
-    names: &Names,
-    context: &Context,
-) -> Result<Vec<u8>, AllocError>
-    requires { HasNoHole context.now.entries }
-    ensures { IfOk result (λ text. IsPrinted names.now context.now text.items) }
-{
-    let values = context.least()?;
-    let items = items_from(alloc, context, 0)?;
-    let universes = universes_of(alloc, context)?;
-    lego_print::development_text(
-        alloc,
-        names,
-        &Front::whole(context),
-        &items,
-        &universes,
-        &values,
-    )
 }
