@@ -1,3 +1,4 @@
+pub mod NamedLemmas
 pub mod ReadingLemmas
 pub mod TextLemmas
 pub mod BindingLemmas
@@ -7,13 +8,8 @@ pub mod SessionLemmas
 pub mod DispatchLemmas
 pub mod TokenLemmas
 pub mod KnownLemmas
-pub mod DenotesTexts
 pub mod DenotesNames
-pub mod DenotesTypes
 pub mod ExplicitLemmas
-pub mod DenotesEntries
-pub mod DenotesLemmas
-pub mod PrintableLemmas
 pub mod PlacesLemmas
 pub mod WrittenFormLemmas
 pub mod UnreadLemmas
@@ -26,12 +22,6 @@ pub mod RunLemmas
 pub mod ClosingLemmas
 pub mod ProgressLemmas
 pub mod OutcomeLemmas
-pub mod OneTypeLemmas
-pub mod OneBindingLemmas
 pub mod OneMoveLemmas
 pub mod OneStepLemmas
 pub mod OneAnswerLemmas
-pub mod OneRunLemmas
-pub mod FrontRunLemmas
-pub mod OneOutcomeLemmas
-pub mod FrontOutcomeLemmas
