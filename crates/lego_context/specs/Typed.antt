@@ -20,10 +20,10 @@ abbrev pub term_task : Contents → Core → Task
 term_task c m = task_over c.entries [] c.levels m AnyType
 
 -- the term has the answered type, and the values are the least that satisfy its constraints together with those held
-pub record IsSettledTyping (c : Contents) (m : Core) (asked : At) (settled : Settled) : Type 0 where
-  pub inferred : IsInferred c [] m asked.place settled.judged
-  pub settled : IsSettled c settled.judged.constraints settled.judged.levels settled.values.items
+pub record IsSettledTyping (c : Contents) (m : Core) (asked : At) (answer : Settled) : Type 0 where
+  pub inferred : IsInferred c [] m asked.place answer.judged
+  pub settled : IsSettled c answer.judged.constraints answer.judged.levels answer.values.items
 
 abbrev pub Types : Contents → Core → At → Result Settled TypeFault → Type 0
-Types c m asked (Ok settled) = IsSettledTyping c m asked settled
+Types c m asked (Ok answer) = IsSettledTyping c m asked answer
 Types c m asked (Err fault) = TypingFails c.entries (term_task c m) asked fault
