@@ -11,3 +11,5 @@ mod level;
 mod reduce;
 #[cfg(test)]
 mod term;
+#[cfg(test)]
+mod undo;
