@@ -1,5 +1,5 @@
 -- What holds of each binder, each constant and each level of a term; and the laws by which it holds of what a term comes to.
-use Rattle.std.specs.Prelude.{ℕ, List}
+use Rattle.std.specs.Prelude.{ℕ, List, Bool, IsTrue}
 use Rattle.std.specs.List.{AllByRecursion}
 use Rattle.lego_term.specs.Trees.{Core, Var, Const, Prop, Univ, Pi, Lam, App, Sigma, Pair, Fst, Snd, Let, instantiate}
 use Rattle.lego_term.specs.declared.binder.Binder.{Binder}
@@ -32,19 +32,24 @@ EachPart b c l (Let x m n) = b OfLocal x × EachPart b c l m × EachPart b c l n
 abbrev pub EachBinder : (BinderKind → Binder → Type 0) → Core → Type 0
 EachBinder b t = EachPart b (λ k. Unit {0}) (λ l. Unit {0}) t
 
--- what holds of each binder of two terms holds of each binder of the one with the other put in
-abbrev pub SubstitutionKeepsBinders : Type 1
+-- each binder of the tree passes the test
+abbrev pub BindersPass : (BinderKind → Binder → Bool) → Core → Type 0
+BindersPass test t = EachBinder (λ kind x. IsTrue (test kind x)) t
+
+-- where the binders of two terms pass a test, so do those of the one with the other put in
+abbrev pub SubstitutionKeepsBinders : Type 0
 SubstitutionKeepsBinders =
-    (b : BinderKind → Binder → Type 0) (m n : Core) → EachBinder b m → EachBinder b n → EachBinder b (instantiate m n)
+    (test : BinderKind → Binder → Bool) (m n : Core) → BindersPass test m → BindersPass test n → BindersPass test (instantiate m n)
 
--- what holds of each binder of the entries and of a term holds of each binder of its head form
-abbrev pub HeadFormsKeepBinders : Type 1
+-- where the binders of the entries and of a term pass a test, so do those of its head form
+abbrev pub HeadFormsKeepBinders : Type 0
 HeadFormsKeepBinders =
-    (b : BinderKind → Binder → Type 0) (es : List Entry) (t h : Core)
-    → HoldsInEntries (EachBinder b) es → EachBinder b t → HeadForm (core_bodies es) t h → EachBinder b h
+    (test : BinderKind → Binder → Bool) (es : List Entry) (t h : Core)
+    → HoldsInEntries (BindersPass test) es → BindersPass test t → HeadForm (core_bodies es) t h → BindersPass test h
 
--- what holds of each binder of the entries, of the local types and of a term holds of each binder of its rule type
-abbrev pub RuleTypesKeepBinders : Type 1
+-- where the binders of the entries, of the local types and of a term pass a test, so do those of its rule type
+abbrev pub RuleTypesKeepBinders : Type 0
 RuleTypesKeepBinders =
-    (b : BinderKind → Binder → Type 0) (es : List Entry) (s : Site) (m a : Core)
-    → HoldsInEntries (EachBinder b) es → AllByRecursion (EachBinder b) s.types → EachBinder b m → RuleTypeAt es s m a → EachBinder b a
+    (test : BinderKind → Binder → Bool) (es : List Entry) (s : Site) (m a : Core)
+    → HoldsInEntries (BindersPass test) es → AllByRecursion (BindersPass test) s.types → BindersPass test m → RuleTypeAt es s m a
+    → BindersPass test a

@@ -14,7 +14,7 @@ use Rattle.lego_grammar.specs.Written.{Written, NameAt, WrittenBinding, WrittenA
 use Rattle.lego_grammar.specs.Grammar.{Names, Nested, token, symbol, sign, closing, Item, item, Form, Reads, NameList, names_of, ReadsBinding, ReadsBindings, TermWord, NumberWord, NameWord, LoneWord, ReadsAct, ReadsCommand}
 use Rattle.lego_grammar.specs.WrittenForm.{is_name, count_names, IsSmall, IsWrittenForm}
 use Rattle.lego_reading.specs.Calls.{locals_within, CanBeRead}
-use Rattle.lego_reading.specs.Parts.{said_binders, HasSmallLevels}
+use Rattle.lego_reading.specs.Written.{written_binders, HasSmallLevels}
 use Rattle.lego_reading.specs.Readable.{CanKindBeRead, CanActBeRead, ParsedTermsCanBeRead}
 use Rattle.lego_reading.proofs.ReadyLemmas.{every_left, every_right}
 
@@ -172,13 +172,13 @@ module _ {names : Names} where
   small : {d : ℕ} {f : Form} {ts : List Nested} {s : Written} → Reads names d f ts s → AreFine ts → HasSmallLevels s
   small {d} (Reads.term_ending r) h = small r h
   small {d} (Reads.term_sum r) h = small r h
-  small {d} (Reads.arrow p {ts = ts} r q) h = (any (said_binders Plain []), small r (every_left IsFine ts _ h), small q (every_right IsFine ts _ h).1)
+  small {d} (Reads.arrow p {ts = ts} r q) h = (any (written_binders Plain []), small r (every_left IsFine ts _ h), small q (every_right IsFine ts _ h).1)
   small {d} (Reads.ending_binder r) h = small r h
   small {d} (Reads.apply_binder {ts = ts} r q) h = (small r (every_left IsFine ts _ h), small q (every_right IsFine ts _ h))
   small {d} (Reads.apply_bar_binder p {ts = ts} r q) h = (small r (every_left IsFine ts _ h), small q (every_right IsFine ts _ h).1)
-  small {d} (Reads.hash_ending p {ts = ts} r q) h = (any (said_binders Plain []), small r (every_left IsFine ts _ h), small q (every_right IsFine ts _ h).1)
+  small {d} (Reads.hash_ending p {ts = ts} r q) h = (any (written_binders Plain []), small r (every_left IsFine ts _ h), small q (every_right IsFine ts _ h).1)
   small {d} (Reads.sum_spine r) h = small r h
-  small {d} (Reads.hash_sum p {ts = ts} r q) h = (any (said_binders Plain []), small r (every_left IsFine ts _ h), small q (every_right IsFine ts _ h).1)
+  small {d} (Reads.hash_sum p {ts = ts} r q) h = (any (written_binders Plain []), small r (every_left IsFine ts _ h), small q (every_right IsFine ts _ h).1)
   small {d} (Reads.spine_post r) h = small r h
   small {d} (Reads.apply {ts = ts} r q) h = (small r (every_left IsFine ts _ h), small q (every_right IsFine ts _ h))
   small {d} (Reads.apply_bar p {ts = ts} r q) h = (small r (every_left IsFine ts _ h), small q (every_right IsFine ts _ h).1)
@@ -198,7 +198,7 @@ module _ {names : Names} where
   small {d} (Reads.bind p q r {kind = kind} {mark = mark} {ns = ns} {ts = ts} {us = us} {xs = xs} may l a m) h =
       let domain = symbol (suc d) q (sign mark) ∷ ts in let body = symbol d r (closing kind) ∷ us in
       let front = every_left IsFine (ns ++ domain) body h.1 in
-      (any (said_binders mark (names_of xs)), small a (every_right IsFine ns domain front).1, small m (every_right IsFine (ns ++ domain) body h.1).1)
+      (any (written_binders mark (names_of xs)), small a (every_right IsFine ns domain front).1, small m (every_right IsFine (ns ++ domain) body h.1).1)
   small {d} (Reads.local p q r s {ts = ts} {us = us} named m b) h =
       let body = symbol d s CloseSquare ∷ us in
       (tt, small m (every_left IsFine ts body h.1.1.1), small b (every_right IsFine ts body h.1.1.1).1)

@@ -8,8 +8,8 @@ use Rattle.lego_inference.specs.Entries.{laws_entries}
 use Rattle.lego_context.specs.Contexts.{Contents}
 use Rattle.lego_reading.specs.declared.fault.ReadFault.{ReadFault}
 use Rattle.lego_reading.specs.declared.fault.ReadFault.TheVariants.{Full, Memory}
-use Rattle.lego_reading.specs.Parts.{HasSmallLevels}
 use Rattle.lego_reading.specs.Universes.{places_of, variables_for, with_types_of}
+use Rattle.lego_reading.specs.Written.{HasSmallLevels}
 use Rattle.lego_reading.specs.Failures.{Fails}
 
 -- a bound on the local variables in scope at the parts of a written term

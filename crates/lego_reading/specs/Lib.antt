@@ -1,4 +1,4 @@
-pub mod Parts
+pub mod Written
 pub mod Universes
 pub mod Failures
 pub mod Calls
