@@ -19,3 +19,6 @@ pub mod Copies
 pub mod UniverseLines
 pub mod ReadDevelopments
 pub mod DevelopmentLemmas
+pub mod MoreNames
+pub mod Showing
+pub mod ShowDevelopments
