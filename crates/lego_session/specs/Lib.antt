@@ -1,6 +1,7 @@
 pub mod Sessions
 pub mod Names
 pub mod Reading
+pub mod Causes
 pub mod Texts
 pub mod Refusals
 pub mod commands
