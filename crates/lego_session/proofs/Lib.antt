@@ -1,4 +1,6 @@
 pub mod NamedLemmas
+pub mod ShowableLemmas
+pub mod HeadlineLemmas
 pub mod ReadingLemmas
 pub mod TextLemmas
 pub mod BindingLemmas
