@@ -1,10 +1,11 @@
 -- A printed development denotes the entries.
 use Rattle.std.proofs.Common.{◌≡◌, ℕ, suc, ◌+◌, ◌<◌, ◌≤◌, ◌^◌, Bool, ◌||◌, List, [], ◌∷◌, ◌++◌, map, length, get_or, Option, Some, IfSome, refl, sym, ap, ◌∙◌, subst, arith, append-nil}
-use Rattle.std.specs.Prelude.{All, IsPermutation}
+use Rattle.std.specs.Prelude.{All, IsPermutation, codes, option_map, unwrap_or, false}
 use Rattle.std.specs.List.{list_any}
 use Rattle.std.proofs.lemmas.List.Elements.{All-head, All-tail, All-nil, All-cons, All-map, All-weaker, All-from_get_or}
 use Rattle.lego_base.specs.Names.{AreDistinct}
-use Rattle.lego_term.specs.Levels.{Assignment, SatisfiesAll, node_value}
+use Rattle.lego_term.specs.Levels.{Assignment, SatisfiesAll}
+use Rattle.lego_term.specs.Trees.{uses_level}
 use Rattle.lego_laws.specs.Entries.{Entry, entries_at, kept}
 use Rattle.lego_laws.specs.Expansion.{HoldsPurely}
 use Rattle.lego_grammar.specs.Grammar.{Names}
@@ -22,9 +23,9 @@ use Rattle.lego_print.specs.declared.shown.Shown.{Shown}
 use Rattle.lego_print.specs.declared.universes.Universe.{Universe as Listed}
 use Rattle.lego_print.specs.Names.{Scope}
 use Rattle.lego_print.specs.Texts.{outer_scope}
-use Rattle.lego_print.specs.Entries.{item_entries, entry_command}
+use Rattle.lego_print.specs.Entries.{item_entries, entry_text, entry_command}
 use Rattle.lego_print.specs.EntryLines.{entry_lines}
-use Rattle.lego_print.specs.Developments.{name_in, with_entry, entry_commands, occurs_in, used_once, IsDevelopment}
+use Rattle.lego_print.specs.Developments.{name_in, with_entry, entry_commands, occurs_in, universe_lines, IsDevelopment}
 use Rattle.lego_print.specs.Denoted.{IsSmall}
 use Rattle.lego_print.specs.Showable.{IsSmallEntry, PrintedDevelopmentsDenote}
 use Rattle.lego_print.proofs.DevelopmentLemmas.{used_agree}
@@ -41,7 +42,7 @@ all_told es = map (λ (e : Item). told (laws_entry e)) es
 pub lines_told : (levels : Shown) (scope : Scope) (es : List Item) → entry_lines levels scope (all_told es) ≡ entry_lines levels scope (laws_entries es)
 lines_told levels scope [] = refl
 lines_told levels scope (e ∷ es) =
-    ap (λ text. entry_lines levels scope (told (laws_entry e) ∷ []) ++ text) (lines_told levels (with_entry scope (laws_entry e)) es)
+    ap (λ text. entry_text levels scope (laws_entry e) ++ codes "\n" ++ text) (lines_told levels (with_entry scope (laws_entry e)) es)
 
 commands_told : (levels : Shown) (scope : Scope) (es : List Item) → entry_commands levels scope (all_told es) ≡ entry_commands levels scope (laws_entries es)
 commands_told levels scope [] = refl
@@ -49,7 +50,7 @@ commands_told levels scope (e ∷ es) = ap (λ text. entry_command levels scope 
 
 occurs_told : (es : List Item) (u : ℕ) → occurs_in (all_told es) u ≡ occurs_in (laws_entries es) u
 occurs_told [] u = refl
-occurs_told (e ∷ es) u = ap (λ (b : Bool). occurs_in (laws_entry e ∷ []) u || b) (occurs_told es u)
+occurs_told (e ∷ es) u = ap (λ (b : Bool). (uses_level u e.ty || unwrap_or (option_map (uses_level u) e.body) false) || b) (occurs_told es u)
 
 -- a development of what the entries tell is one of the entries
 development_told : {v : Assignment} {names : Names} {constant : ℕ → Option ℕ} {us : List Listed} {text : List ℕ} (es : List Item)
@@ -60,7 +61,7 @@ development_told {v} {names} {constant} {us} es d = record {
   listed = d.listed;
   once = subst (λ (xs : List Listed). IsPermutation xs d.listed) (used_agree (occurs_in (all_told es)) (occurs_in (laws_entries es)) us (occurs_told es)) d.once;
   by_place = d.by_place;
-  is = d.is ∙ ap (λ text. _ ++ text ++ _) (commands_told d.levels (outer_scope names constant []) es);
+  is = d.is ∙ ap (λ text. codes "Explicit;\n" ++ text ++ universe_lines v d.listed) (commands_told d.levels (outer_scope names constant []) es);
 }
 
 -- what the items tell is small, and so are the entries

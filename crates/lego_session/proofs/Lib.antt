@@ -1,3 +1,4 @@
+pub mod HeldLemmas
 pub mod NamedLemmas
 pub mod ShowableLemmas
 pub mod HeadlineLemmas
@@ -24,6 +25,7 @@ pub mod RunLemmas
 pub mod ClosingLemmas
 pub mod ProgressLemmas
 pub mod OutcomeLemmas
-pub mod OneMoveLemmas
+pub mod OneTextLemmas
 pub mod OneStepLemmas
-pub mod OneAnswerLemmas
+pub mod OneReadingLemmas
+pub mod OneRunLemmas

@@ -1,5 +1,5 @@
 use Rattle.std.proofs.Common.{[], refl}
-use Rattle.lego_session.proofs.KnownLemmas.{empty_known}
+use Rattle.lego_session.proofs.HeldLemmas.{empty_known}
 use Rattle.lego_session.proofs.RunLemmas.{reached_first}
 use Rattle.lego_session.proofs.progress.Progress.new.Goals as goal
 
