@@ -17,7 +17,7 @@ use Rattle.lego_session.specs.declared.refusal.Cause.{Cause}
 use Rattle.lego_session.specs.declared.refusal.Cause.TheVariants.{LongCommand}
 use Rattle.lego_session.specs.declared.refusal.Refusal.{Refusal}
 use Rattle.lego_session.specs.declared.session.Answer.{Answer}
-use Rattle.lego_session.proofs.HeldLemmas.{session_more, command_keeps, unread_front, names_held}
+use Rattle.lego_session.proofs.HeldLemmas.{command_keeps, unread_keeps, names_held}
 
 -- what the count of the names says of their numbering
 pub numbered : (names : Names) (count : ℕ) → count ≡ length names → count ≤ 1048576 → AreDistinct names → IsNumbering names
@@ -77,7 +77,7 @@ command_written limit held names old new c o (Some a) numbering command built st
 pub run_known : {held names : Names} {old new : Session} {c : CommandText} {o : WrittenCommand} (written : Option Answered) → IsNumberedCommand held names c o
     → (IsKnownSession names old → AreBoundHeld names (bindings_of o.act) → IsKnownSession names new) → IsKnownSession held old → IfSome written (λ a. IsKnownSession names new)
 run_known None command keeps known = tt
-run_known (Some a) command keeps known = keeps (command_keeps command known) (names_held command.command.parsed command.command.lexed.lexed)
+run_known (Some a) command keeps known = keeps (command_keeps command known) (names_held command.command.parsed)
 
 -- and where they are none
 pub unread_known : {held left : Names} {s : Session} {c : CommandText} {p : Place} {cause : Cause} (written : Option Answered) (refusal : Refusal)
@@ -86,4 +86,4 @@ pub unread_known : {held left : Names} {s : Session} {c : CommandText} {p : Plac
 unread_known None refusal unread few is w known = tt
 unread_known (Some a) refusal unread few (inl memory) w known = absurd (w.0 memory.0)
 unread_known (Some a) refusal (inl memory) few (inr is) w known = absurd (is.0 memory)
-unread_known {held} {left} {s} (Some a) refusal (inr h) few (inr is) w known = session_more held left s (unread_front few h) known
+unread_known {held} {left} {s} (Some a) refusal (inr h) few (inr is) w known = unread_keeps few h known

@@ -30,7 +30,7 @@ use Rattle.lego_print.specs.Denoted.{IsSmall}
 use Rattle.lego_print.specs.Showable.{IsSmallEntry, PrintedDevelopmentsDenote}
 use Rattle.lego_print.proofs.DevelopmentLemmas.{used_agree}
 use Rattle.lego_session.specs.Headline.{Headline}
-use Rattle.lego_session.specs.Names.{AreKnown}
+use Rattle.lego_session.specs.Names.{AreTrueNames, AreKnown}
 use Rattle.lego_session.specs.Texts.{first_place, listed, IsPrinted}
 use Rattle.lego_session.specs.private.Items.{told, HasSmallPlace}
 use Rattle.lego_session.proofs.ShowableLemmas.{can_be_shown}
@@ -95,12 +95,12 @@ module _ (names : Names) (c : Contents) (v : Assignment) (settled : IsSettled c 
     }
 
     -- and denotes its entries
-    pub headline : IsContext c → AreOverFronts c → HoldsByLuosRules c → HasNoHole c.entries → AreKnown names c → AreDistinct names
+    pub headline : IsContext c → AreOverFronts c → HoldsByLuosRules c → HasNoHole c.entries → AreTrueNames names → AreKnown names c → AreDistinct names
         → All (IsSmallEntry v) (item_entries items) → All HasSmallPlace us → PrintedDevelopmentsDenote → Headline names c text
-    headline context over pure none known distinct small places law =
+    headline context over pure none true_names known distinct small places law =
         let sizes = small_told v c.entries (subst (All (IsSmallEntry v)) tell small) in
         let read = law v names (laws_entries c.entries) us text first_place distinct development
-        (can_be_shown names c v context over none known sizes) (universes_small us places) in
+        (can_be_shown names c v context over none true_names known sizes) (universes_small us places) in
         let least : IsLeast (constraints_of c.entries) v = subst (λ (cs : List Constraint). IsLeast cs v) (append-nil (constraints_of c.entries)) settled.least in
         record {
           levels = v;

@@ -1,12 +1,16 @@
 -- The entries of a context whose names are held can be shown.
-use Rattle.std.proofs.Common.{◌≡◌, ℕ, zero, suc, ◌+◌, ◌<◌, ◌≤◌, ◌^◌, nat_eq, Bool, true, false, List, [], ◌∷◌, ◌++◌, map, take, length, Option, Some, None, option_map, unwrap_or, IfSome, refl, sym, ap, ◌∙◌, subst, arith, append_assoc, length-append}
+use Rattle.std.proofs.Common.{◌≡◌, ℕ, zero, suc, ◌+◌, ◌<◌, ◌≤◌, ◌^◌, nat_eq, Bool, true, false, ◌&&◌, get_or, List, [], ◌∷◌, ◌++◌, map, take, length, Option, Some, None, option_map, unwrap_or, IfSome, refl, sym, ap, ◌∙◌, subst, arith, append_assoc, length-append}
 use Rattle.std.specs.Prelude.{All, is_some, IsSome, IsTrue, slice_get, find}
 use Rattle.std.specs.List.{AllByRecursion}
 use Rattle.std.proofs.lemmas.Bool.Decides.{nat_tests}
 use Rattle.std.proofs.lemmas.List.Elements.{All-head, All-tail, All-nil, All-cons, All-get_or, filter_map-append}
-use Rattle.std.proofs.lemmas.Option.{slice_get_within, get_or_from_slice_get}
+use Rattle.std.proofs.lemmas.Bool.{ltb-true, false≢true}
+use Rattle.std.proofs.lemmas.Option.{slice_get_within, slice_get-get_or, get_or_from_slice_get}
 use Rattle.lego_term.specs.Levels.{Assignment}
 use Rattle.lego_term.specs.declared.binder.Binder.{Binder}
+use Rattle.lego_term.specs.declared.binder.Mark.{Mark}
+use Rattle.lego_term.specs.declared.binder.Mark.TheVariants.{Plain, Implicit}
+use Rattle.lego_lexer.specs.Tokens.{Name, token_of}
 use Rattle.lego_term.specs.Trees.{Core, Var, Const, Prop, Univ, Pi, Lam, App, Sigma, Pair, Fst, Snd, Let, loose}
 use Rattle.lego_laws.specs.Entries.{Entry, entry_of}
 use Rattle.lego_laws.specs.Strengthening.{MentionsOnly}
@@ -15,7 +19,7 @@ use Rattle.lego_grammar.specs.Scopes.{entry_named}
 use Rattle.lego_grammar.specs.Scopes as scopes
 use Rattle.lego_level.specs.Graphs.{Differ}
 use Rattle.lego_inference.specs.declared.entry.Entry.{Entry as Item}
-use Rattle.lego_inference.specs.Binders.{BinderKind, EachBinder}
+use Rattle.lego_inference.specs.Binders.{BinderKind, OfFunction, OfPair, OfLocal, BindersPass}
 use Rattle.lego_inference.specs.Calls.{IsTermOver}
 use Rattle.lego_inference.specs.Entries.{laws_entry, laws_entries, numbers_of}
 use Rattle.lego_inference.specs.Locals.{NamesEntries}
@@ -23,41 +27,55 @@ use Rattle.lego_context.specs.Contexts.{Contents, IsContext, IsOverFront, AreOve
 use Rattle.lego_context.specs.Entries.{names_of, IsEntry, IsNoHole, HasNoHole}
 use Rattle.lego_context.proofs.EntryLemmas.{laws-push}
 use Rattle.lego_print.specs.Showable.{IsName, IsNamed, IsNamedAndPlain, AreBindersShowable, IsSmallTerm, IsSmallEntry, has_entry, IsShowableTerm, IsShowableEntry, AreShowable}
-use Rattle.lego_session.specs.Names.{IsHeldName, IsHeldWhere, IsKnownBinder, IsKnown, AreKnown}
+use Rattle.lego_session.specs.Names.{AreTrueNames, is_held, is_held_where, is_known_binder, IsKnown, AreKnown}
+use Rattle.lego_session.specs.Reading.{is_plain}
 use Rattle.lego_session.proofs.NamedLemmas.{has_name}
 
--- a name that is held
-is_name : {names : Names} {n : ℕ} → IsHeldName names n → IsName names n
-is_name h = record { text = h.text; held = h.held; is_name = h.is_name }
+-- a name that is held is one
+is_name : (names : Names) (n : ℕ) → AreTrueNames names → is_held names n ≡ true → IsName names n
+is_name names n true_names h =
+    let below : n < length names = ltb-true n (length names) h in
+    let there : slice_get names n ≡ Some (get_or names n []) = slice_get-get_or names n [] below in
+    record { text = get_or names n []; held = there; is_name = All-get_or (λ text. token_of text ≡ Some (Name text)) names n [] below true_names }
 
-name_where : {names : Names} (name : Option ℕ) → IsHeldWhere names name → IfSome name (IsName names)
-name_where None h = tt
-name_where (Some n) h = is_name h
+name_where : (names : Names) → AreTrueNames names → (name : Option ℕ) → is_held_where names name ≡ true → IfSome name (IsName names)
+name_where names true_names None h = tt
+name_where names true_names (Some n) h = is_name names n true_names h
 
-the_name : {names : Names} {n : ℕ} (name : Option ℕ) → name ≡ Some n → IsHeldWhere names name → IsName names n
-the_name {names} {n} name is h = let held : IsHeldName names n = subst (IsHeldWhere names) is h in is_name held
+the_name : (names : Names) (n : ℕ) → AreTrueNames names → (name : Option ℕ) → name ≡ Some n → is_held_where names name ≡ true → IsName names n
+the_name names n true_names name is h = is_name names n true_names (subst (λ (o : Option ℕ). is_held_where names o ≡ true) is h)
 
-module _ (names : Names) where
-  named : (x : Binder) → IsKnownBinder names x → IsNamed names x
-  named x h = name_where x.name h.held
+is_plain_mark : (mark : Mark) → is_plain mark ≡ true → mark ≡ Plain
+is_plain_mark Plain h = refl
+is_plain_mark Implicit h = cc
 
-  plain : (x : Binder) → IsKnownBinder names x → IsNamedAndPlain names x
-  plain x h = (name_where x.name h.held, h.plain)
+both : (a b : Bool) → (a && b) ≡ true → (a ≡ true) × (b ≡ true)
+both true b h = (refl, h)
+both false b h = absurd (false≢true h)
+
+module _ (names : Names) (true_names : AreTrueNames names) where
+  plain : (kind : BinderKind) (x : Binder) → IsTrue (is_known_binder names kind x) → IsNamedAndPlain names x
+  plain kind x h =
+      let parts = both (is_plain x.mark) (is_held_where names x.name) h in
+      (name_where names true_names x.name parts.1, is_plain_mark x.mark parts.0)
+
+  named : (kind : BinderKind) (x : Binder) → IsTrue (is_known_binder names kind x) → IsNamed names x
+  named kind x h = (plain kind x h).0
 
   -- binders that are known can be shown
-  binders : (t : Core) → EachBinder (λ (kind : BinderKind) x. IsKnownBinder names x) t → AreBindersShowable names t
+  binders : (t : Core) → BindersPass (is_known_binder names) t → AreBindersShowable names t
   binders (Var i) h = tt
   binders (Const k) h = tt
   binders Prop h = tt
   binders (Univ l) h = tt
-  binders (Pi x a b) h = (named x h.0, binders a h.1, binders b h.2)
-  binders (Lam x a m) h = (named x h.0, binders a h.1, binders m h.2)
+  binders (Pi x a b) h = (named OfFunction x h.0, binders a h.1, binders b h.2)
+  binders (Lam x a m) h = (named OfFunction x h.0, binders a h.1, binders m h.2)
   binders (App mark m n) h = (binders m h.0, binders n h.1)
-  binders (Sigma x a b) h = (plain x h.0, binders a h.1, binders b h.2)
-  binders (Pair x a b m n) h = (plain x h.0, binders a h.1, binders b h.2, binders m h.3, binders n h.4)
+  binders (Sigma x a b) h = (plain OfPair x h.0, binders a h.1, binders b h.2)
+  binders (Pair x a b m n) h = (plain OfPair x h.0, binders a h.1, binders b h.2, binders m h.3, binders n h.4)
   binders (Fst m) h = binders m h
   binders (Snd m) h = binders m h
-  binders (Let x m n) h = (plain x h.0, binders m h.1, binders n h.2)
+  binders (Let x m n) h = (plain OfLocal x h.0, binders m h.1, binders n h.2)
 
 has_one : (o : Option Entry) → IsSome o → IsTrue (unwrap_or (option_map (λ (e : Entry). true) o) false)
 has_one None h = absurd (cc)
@@ -79,18 +97,18 @@ mentions es (Snd m) h = mentions es m h
 mentions es (Let x m n) h = (mentions es m h.1, mentions es n h.2)
 
 -- a known term over entries can be shown behind them
-term : (names : Names) (before : List Item) (levels : ℕ) (t : Core) → IsTermOver before [] levels t
-    → EachBinder (λ (kind : BinderKind) x. IsKnownBinder names x) t → IsShowableTerm names (laws_entries before) t
-term names before levels t over known = record {
+term : (names : Names) → AreTrueNames names → (before : List Item) (levels : ℕ) (t : Core) → IsTermOver before [] levels t
+    → BindersPass (is_known_binder names) t → IsShowableTerm names (laws_entries before) t
+term names true_names before levels t over known = record {
   closed = let h : loose t ≤ 0 = over.variables in omega (arith, h);
   mentions = mentions (laws_entries before) t over.names;
-  binders = binders names t known;
+  binders = binders names true_names t known;
 }
 
-body : (names : Names) (before : List Item) (levels : ℕ) (o : Option Core) → IfSome o (λ m. IsTermOver before [] levels m)
-    → IfSome o (EachBinder (λ (kind : BinderKind) x. IsKnownBinder names x)) → IfSome o (IsShowableTerm names (laws_entries before))
-body names before levels None over known = tt
-body names before levels (Some m) over known = term names before levels m over known
+body : (names : Names) → AreTrueNames names → (before : List Item) (levels : ℕ) (o : Option Core) → IfSome o (λ m. IsTermOver before [] levels m)
+    → IfSome o (BindersPass (is_known_binder names)) → IfSome o (IsShowableTerm names (laws_entries before))
+body names true_names before levels None over known = tt
+body names true_names before levels (Some m) over known = term names true_names before levels m over known
 
 body_plain : {P : Type 0} (o : Option Core) → P → IfSome o (λ m. P)
 body_plain None p = tt
@@ -151,7 +169,8 @@ numbers_split : (es ds : List Item) → numbers_of (es ++ ds) ≡ numbers_of es 
 numbers_split [] ds = refl
 numbers_split (e ∷ es) ds = ap (λ ns. e.number ∷ ns) (numbers_split es ds)
 
-module _ (names : Names) (c : Contents) (v : Assignment) (context : IsContext c) (over : AreOverFronts c) (none : HasNoHole c.entries) (known : AreKnown names c)
+module _ (names : Names) (c : Contents) (v : Assignment) (context : IsContext c) (over : AreOverFronts c) (none : HasNoHole c.entries) (true_names : AreTrueNames names)
+    (known : AreKnown names c)
     (small : All (λ e. IsSmallEntry v (laws_entry e)) c.entries) where
   module _ (before : List Item) (e : Item) (es : List Item) (whole : c.entries ≡ before ++ e ∷ es) where
     there : slice_get c.entries (length before) ≡ Some e
@@ -181,13 +200,13 @@ module _ (names : Names) (c : Contents) (v : Assignment) (context : IsContext c)
     entry = record {
       name = is_named.0;
       named = is_named.1;
-      is_name = the_name e.name is_named.1 is_known.name;
+      is_name = the_name names is_named.0 true_names e.name is_named.1 is_known.name;
       new_name = no_such_name before is_named.0 (differ_before (names_of before) is_named.0 (names_of es) (subst Differ (names_here is_named.0 is_named.1) context.names));
       new_number = no_such_number before e.number (differ_before (numbers_of before) e.number (numbers_of es) (subst Differ numbers_here context.numbers));
       few = let n : length c.entries ≡ length before + suc (length es) = ap length whole ∙ length-append before (e ∷ es) in omega (arith, n, context.few_entries, count_laws before);
-      plain = body_plain e.body is_known.plain;
-      ty = term names before c.levels e.ty over_front.type is_known.ty;
-      body = body names before c.levels e.body over_front.body is_known.body;
+      plain = body_plain e.body (is_plain_mark e.mark is_known.plain);
+      ty = term names true_names before c.levels e.ty over_front.type is_known.ty;
+      body = body names true_names before c.levels e.body over_front.body is_known.body;
       small = at_place (λ (x : Item). IsSmallEntry v (laws_entry x)) c.entries (length before) e there small;
     }
 

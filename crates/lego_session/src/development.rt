@@ -2,7 +2,7 @@
 ghost use Rattle.std.specs.Prelude.{◌≡◌, map, All, IfOk};
 ghost use Rattle.lego_context.specs.Entries.{HasNoHole};
 ghost use Rattle.lego_session.specs.Headline.{Headline};
-ghost use Rattle.lego_session.specs.Names.{AreKnown, IsKnownSession};
+ghost use Rattle.lego_session.specs.Names.{AreTrueNames, AreKnown, IsKnownSession};
 ghost use Rattle.lego_session.specs.Sessions.{context_of};
 ghost use Rattle.lego_session.specs.Texts.{IsPrinted, listed};
 ghost use Rattle.lego_session.specs.private.Items.{HasSmallPlace};
@@ -58,6 +58,7 @@ fn development(
     context: &Context,
 ) -> Result<Vec<u8>, AllocError>
     requires no_hole { HasNoHole context.now.entries }
+    requires true_names { AreTrueNames names.now }
     requires known { AreKnown names.now context.now }
     ensures text { IfOk result (λ text. IsPrinted names.now context.now text.items) }
     ensures headline { IfOk result (λ text. Headline names.now context.now text.items) }

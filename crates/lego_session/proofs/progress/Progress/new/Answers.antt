@@ -11,5 +11,5 @@ returns-clause-fresh c = record {
   reached = rw (c.new-names.ensures, c.new-session.ensures) (reached_first c.args.options.steps c.args.options.stop);
   refused = refl;
   pending = c.new-pending.ensures;
-  known = rw (c.new-names.ensures, c.new-session.ensures) (empty_known []);
+  known = rw (c.new-names.ensures, c.new-session.ensures) empty_known;
 }
