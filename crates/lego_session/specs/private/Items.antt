@@ -1,5 +1,5 @@
 -- Entries as a printer sees them.
-use Rattle.std.specs.Prelude.{◌≡◌, ℕ, ◌<◌, ◌^◌, List, [], map, take}
+use Rattle.std.specs.Prelude.{◌≡◌, ℕ, ◌<◌, ◌^◌, List, [], map, take, slice_get, Option, option_and_then}
 use Rattle.lego_grammar.specs.Grammar.{Names}
 use Rattle.lego_laws.specs.Entries.{Entry}
 use Rattle.lego_inference.specs.declared.entry.Entry.{Entry as Item}
@@ -9,6 +9,10 @@ use Rattle.lego_print.specs.declared.item.Item.{Item as Printed}
 use Rattle.lego_print.specs.declared.universes.Universe.{Universe as Listed}
 use Rattle.lego_print.specs.Entries.{item_entry, item_entries}
 use Rattle.lego_session.specs.Texts.{scope_among}
+
+-- the name of the entry at a place
+abbrev pub name_at : List Item → ℕ → Option ℕ
+name_at es at = option_and_then (λ e. e.name) (slice_get es at)
 
 -- what a text tells of an entry
 abbrev pub told : Entry → Entry
