@@ -3,7 +3,7 @@ use Rattle.std.specs.Prelude.{None}
 use Rattle.lego_base.specs.declared.place.Place.{Place}
 use Rattle.lego_inference.specs.declared.fault.Counted.TheVariants.{Levels}
 use Rattle.lego_inference.specs.declared.fault.TypeFault.{TypeFault}
-use Rattle.lego_inference.specs.declared.fault.TypeFault.TheVariants as Type
+use Rattle.lego_inference.specs.declared.fault.TypeFault.TheVariants as fault
 use Rattle.lego_reading.specs.declared.fault.ReadFault.{ReadFault}
 use Rattle.lego_reading.specs.declared.fault.ReadFault.TheVariants as Read
 use Rattle.lego_session.specs.declared.refusal.Cause.{Cause}
@@ -26,19 +26,19 @@ read_cause Read.Memory = Memory
 
 -- the faults that a context without holes has where it is asked for a new name
 abbrev pub IsTold : TypeFault → Type 0
-IsTold (Type.NameInUse at) = ⊥
-IsTold (Type.Circular hole) = ⊥
+IsTold (fault.NameInUse at) = ⊥
+IsTold (fault.Circular hole) = ⊥
 IsTold _ = Unit {0}
 
 -- the cause for each of these; the others have none
 abbrev pub cause_of : TypeFault → Cause
-cause_of (Type.NotAType term got) = NotAType term got
-cause_of (Type.NotAFunction term got) = NotAFunction term got
-cause_of (Type.NotAPair term got) = NotAPair term got
-cause_of (Type.Mismatch term have want) = Mismatch term have want
-cause_of (Type.Universe cycle) = Universe cycle
-cause_of (Type.Budget left right) = Budget left right
-cause_of (Type.TooLarge i j) = TooLarge i j
-cause_of (Type.LevelTooBig constraint needed) = LevelTooBig constraint needed
-cause_of (Type.Full of held) = Full of held
+cause_of (fault.NotAType term got) = NotAType term got
+cause_of (fault.NotAFunction term got) = NotAFunction term got
+cause_of (fault.NotAPair term got) = NotAPair term got
+cause_of (fault.Mismatch term have want) = Mismatch term have want
+cause_of (fault.Universe cycle) = Universe cycle
+cause_of (fault.Budget left right) = Budget left right
+cause_of (fault.TooLarge i j) = TooLarge i j
+cause_of (fault.LevelTooBig constraint needed) = LevelTooBig constraint needed
+cause_of (fault.Full of held) = Full of held
 cause_of _ = Memory
