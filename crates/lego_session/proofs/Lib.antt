@@ -35,3 +35,4 @@ pub mod OneRunLemmas
 pub mod FrontRunLemmas
 pub mod OneOutcomeLemmas
 pub mod FrontOutcomeLemmas
+pub mod CompletenessLemmas

@@ -1,4 +1,5 @@
 //! Laws of runs, each the contract of a function that does nothing.
+ghost use Rattle.lego_session.specs.Completeness.{TypedCommandsMeetLimitsAlone};
 ghost use Rattle.lego_session.specs.Laws.{StepsHaveOneReply, RunsHaveOneOutput, OutcomesAreOne, OutcomesAreFronts};
 
 /// In a session whose names differ, a command has one reply and leaves one session, want of
@@ -19,4 +20,10 @@ pub fn runs_have_one_output()
 pub fn outcomes_are_one()
     ensures one { OutcomesAreOne }
     ensures fronts { OutcomesAreFronts }
+{}
+
+/// A command whose terms have typings over the session's context is refused for limits alone: of
+/// steps, of sizes, of levels, of what is held, or of memory.
+pub fn typed_commands_meet_limits_alone()
+    ensures { TypedCommandsMeetLimitsAlone }
 {}
