@@ -32,3 +32,4 @@ pub mod OneTextLemmas
 pub mod OneStepLemmas
 pub mod OneReadingLemmas
 pub mod OneRunLemmas
+pub mod CompletenessLemmas

@@ -12,4 +12,5 @@ pub mod Runs
 pub mod Statuses
 pub mod Outcomes
 pub mod Laws
+pub mod Completeness
 pub mod private
