@@ -1,22 +1,19 @@
 -- The refusals of a store are those of an entry.
-use Rattle.std.proofs.Common.{◌≡◌, ℕ, ◌+◌, ◌≤◌, ◌<◌, List, ◌++◌, length, All, get_or, refl, sym, ap, ◌∙◌, subst, arith}
+use Rattle.std.proofs.Common.{◌≡◌, ℕ, ◌≤◌, ◌<◌, List, sym, subst, arith}
 use Rattle.lego_term.specs.Levels.{Assignment, SatisfiesAll}
 use Rattle.lego_laws.specs.Entries.{kept}
 use Rattle.lego_laws.specs.Places.{Task}
-use Rattle.lego_laws.specs.Principal.{AreSmall}
-use Rattle.lego_laws.specs.Shape.{IsTyped}
-use Rattle.lego_laws.specs.Tasks.{FitsTask, IsTypedWithin}
 use Rattle.lego_laws.specs.Valid.{AlwaysValid}
 use Rattle.lego_laws.proofs.lemmas.principal.Tasks.{unsolvable_tasks_have_no_typing, small_tasks_have_small_solutions}
 use Rattle.lego_level.specs.declared.constraint.Constraint.{Constraint}
-use Rattle.lego_level.specs.Graphs.{pairs_of, IsCycle, Forces, CanBeSatisfied, CanBeSatisfiedWithin}
+use Rattle.lego_level.specs.Graphs.{pairs_of, IsCycle, Forces, CanBeSatisfied}
 use Rattle.lego_inference.specs.declared.entry.At.{At}
 use Rattle.lego_inference.specs.declared.entry.Entry.{Entry as Item}
 use Rattle.lego_inference.specs.declared.fault.TypeFault.{TypeFault}
 use Rattle.lego_inference.specs.declared.fault.TypeFault.TheVariants as fault
 use Rattle.lego_inference.specs.Entries.{laws_entries}
 use Rattle.lego_inference.specs.Failures.{TypeFails}
-use Rattle.lego_context.specs.Causes.{together, AreAsked, UniverseCause, LevelTooBigCause, IsAdmitted, IsNewName, TypingFails, AddFails}
+use Rattle.lego_context.specs.Causes.{together, AreAsked, UniverseCause, LevelTooBigCause, IsNewName, TypingFails, AddFails}
 use Rattle.lego_context.specs.Settling.{IsUnsettled}
 use Rattle.lego_context.specs.private.Adding.{StoreFails}
 use Rattle.lego_context.proofs.EntryLemmas.{together_satisfied}

@@ -1,5 +1,5 @@
 -- A context is one with an entry more.
-use Rattle.std.proofs.Common.{◌≡◌, ℕ, zero, suc, ◌+◌, ◌<◌, ◌≤◌, nat_eq, nat_lt, if◌then◌else◌, Bool, true, false, List, [], ◌∷◌, ◌++◌, map, take, length, Option, Some, None, option_map, IfSome, All, Contains, refl, sym, ap, ◌∙◌, subst, arith}
+use Rattle.std.proofs.Common.{◌≡◌, ℕ, suc, ◌<◌, nat_eq, nat_lt, Bool, true, false, List, [], ◌∷◌, ◌++◌, map, take, length, Option, Some, None, option_map, IfSome, Contains, refl, sym, ap, ◌∙◌, subst, arith}
 use Rattle.std.proofs.lemmas.Bool.{ltb-true, ltb-false}
 use Rattle.std.proofs.lemmas.List.{take_all, take-append-le, length-append}
 use Rattle.std.proofs.lemmas.List.Elements.{All-append, All-cons, All-nil}
@@ -7,26 +7,25 @@ use Rattle.std.proofs.lemmas.Bool.Decides.{nat_tests}
 use Rattle.lego_term.specs.Levels.{Assignment, SatisfiesAll}
 use Rattle.lego_term.specs.Trees.{Core, Term, at, loose}
 use Rattle.lego_laws.specs.Parallel.{AreClosed}
-use Rattle.lego_laws.specs.Entries.{Entry, Constant, entry_at, entries_at, entry_of, constant_of, bodies_of, core_bodies, kept}
+use Rattle.lego_laws.specs.Entries.{Constant, entry_at, entries_at, constant_of, bodies_of, core_bodies, kept}
 use Rattle.lego_laws.specs.Derivations.{types_of}
-use Rattle.lego_laws.specs.Judgement.{Has, IsType, grow_constant}
-use Rattle.lego_laws.specs.Valid.{AreValid, BodiesFit, AlwaysValid}
-use Rattle.lego_laws.specs.Principal.{core_types, entries_bound}
-use Rattle.lego_laws.specs.Ranges.{Context, locals_bound}
+use Rattle.lego_laws.specs.Judgement.{Has, grow_constant}
+use Rattle.lego_laws.specs.Valid.{AreValid, AlwaysValid}
+use Rattle.lego_laws.specs.Principal.{core_types}
+use Rattle.lego_laws.specs.Ranges.{Context}
 use Rattle.lego_laws.specs.RuleTypeLaws.{AreScoped}
 use Rattle.lego_laws.proofs.lemmas.reduction.Valued.{loose-map}
 use Rattle.lego_term.specs.Levels.{level_value}
 use Rattle.lego_laws.proofs.lemmas.principal.EntriesAt.{entries_at_values, entries_and_locals_are_a_context}
 use Rattle.lego_laws.proofs.lemmas.typing.Entries.{types_closed, bodies_closed, loose_within}
-use Rattle.lego_laws.proofs.lemmas.typing.Rules.{known}
-use Rattle.lego_laws.specs.Derivations.{ValidLocals, v_none, v_local}
+use Rattle.lego_laws.specs.Derivations.{ValidLocals, v_local}
 use Rattle.lego_laws.proofs.lemmas.typing.TypingLaws.{constants_valid}
-use Rattle.lego_level.specs.Graphs.{pairs_of, CanBeSatisfiedWithin, Differ}
+use Rattle.lego_level.specs.Graphs.{CanBeSatisfiedWithin, Differ}
 use Rattle.lego_inference.specs.declared.entry.Entry.{Entry as Item}
 use Rattle.lego_inference.specs.declared.locals.Local.{Local}
 use Rattle.lego_inference.specs.Entries.{laws_entry, laws_entries, numbers_of}
 use Rattle.lego_inference.specs.Locals.{types_of as types_of_locals}
-use Rattle.lego_context.specs.Entries.{constraints_of, names_of, IsEntry, HasNoHole, IsLeastFree}
+use Rattle.lego_context.specs.Entries.{names_of, IsEntry, HasNoHole}
 use Rattle.lego_context.specs.Contexts.{Contents, IsContext, AreFrontsValid, IsSmallEntry}
 use Rattle.lego_context.specs.Calls.{AreLocals}
 use Rattle.lego_context.specs.Causes.{together}

@@ -1,13 +1,13 @@
 -- Each entry of a context is over those before it.
-use Rattle.std.proofs.Common.{◌≡◌, ℕ, zero, suc, ◌+◌, ◌≤◌, Bool, true, false, IsTrue, is_some, IsSome, List, [], ◌∷◌, ◌++◌, map, reverse, take, drop, length, slice_get, Option, Some, None, option_map, IfSome, All, refl, sym, ap, ◌∙◌, subst, append_assoc, arith}
+use Rattle.std.proofs.Common.{◌≡◌, ℕ, zero, suc, ◌≤◌, IsTrue, is_some, List, [], ◌∷◌, ◌++◌, map, reverse, take, drop, slice_get, Option, Some, None, option_map, IfSome, All, refl, sym, ap, ◌∙◌, subst, append_assoc, arith}
 use Rattle.std.proofs.lemmas.List.{map-append, reverse-append}
 use Rattle.std.proofs.lemmas.List.Elements.{All-head, All-tail}
 use Rattle.lego_term.specs.Levels.{Assignment, level_value}
 use Rattle.lego_term.specs.Trees.{Core, Term, at, loose}
-use Rattle.lego_laws.specs.Parallel.{TermBodies, bodies_at}
-use Rattle.lego_laws.specs.Entries.{Entry, Constant, entry_of, entry_at, entries_at, bodies_of, kept}
+use Rattle.lego_laws.specs.Parallel.{TermBodies}
+use Rattle.lego_laws.specs.Entries.{Entry, Constant, entry_of, entry_at, entries_at, bodies_of}
 use Rattle.lego_laws.specs.Derivations.{types_of, Derives}
-use Rattle.lego_laws.specs.Principal.{core_types, entries_bound, body_bound}
+use Rattle.lego_laws.specs.Principal.{entries_bound, body_bound}
 use Rattle.lego_laws.specs.Ranges.{levels_bound}
 use Rattle.lego_laws.specs.Valid.{AreValid, BodiesFit}
 use Rattle.lego_laws.proofs.lemmas.principal.EntriesAt.{types_at}

@@ -1,6 +1,5 @@
 -- The entries of a context and local types over it name its entries alone.
-use Rattle.std.proofs.Common.{◌≡◌, ℕ, zero, suc, ◌≤◌, Bool, true, false, IsTrue, is_some, IsSome, nat_eq, if◌then◌else◌, List, [], ◌∷◌, ◌++◌, take, length, slice_get, Option, Some, None, IfSome, refl, sym, ap, ◌∙◌, subst, append_assoc}
-use Rattle.std.specs.List.{AllByRecursion}
+use Rattle.std.proofs.Common.{◌≡◌, ℕ, ◌≤◌, Bool, true, false, IsTrue, is_some, IsSome, nat_eq, List, [], ◌∷◌, ◌++◌, take, length, slice_get, Option, Some, None, IfSome, refl, sym, ap, ◌∙◌, subst, append_assoc}
 use Rattle.std.proofs.lemmas.List.{map-append}
 use Rattle.lego_term.specs.Trees.{Core}
 use Rattle.lego_laws.specs.Entries.{Entry, entry_of}

@@ -1,5 +1,5 @@
 -- What a check answers of is fit to be the next entry.
-use Rattle.std.proofs.Common.{◌≡◌, ℕ, ◌+◌, ◌<◌, ◌≤◌, List, [], ◌∷◌, length, Option, Some, None, IfSome, Ok, Err, Result, refl, sym, ap, ◌∙◌, subst, arith}
+use Rattle.std.proofs.Common.{◌≡◌, ℕ, ◌≤◌, List, [], Option, Some, None, IfSome, Ok, Err, Result, refl, sym, subst, arith}
 use Rattle.lego_term.specs.declared.binder.Mark.{Mark}
 use Rattle.lego_term.specs.Levels.{Assignment, LevelPair, SatisfiesAll}
 use Rattle.lego_term.specs.Trees.{Core, at}
@@ -20,7 +20,7 @@ use Rattle.lego_inference.specs.Calls.{IsTermOver, task_over, Infers as InfersOv
 use Rattle.lego_inference.specs.Entries.{laws_entries}
 use Rattle.lego_inference.specs.Inferred as over
 use Rattle.lego_inference.specs.Inferred.{AreGathered}
-use Rattle.lego_context.specs.Entries.{HasNoHole, IsLeastFree}
+use Rattle.lego_context.specs.Entries.{IsLeastFree}
 use Rattle.lego_context.specs.Contexts.{Contents, IsContext}
 use Rattle.lego_context.specs.Calls.{CanTakeType, CanTakeBody, Assumes, Defines}
 use Rattle.lego_context.specs.Causes.{AreAsked, IsNewName}

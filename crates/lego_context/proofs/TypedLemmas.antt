@@ -1,5 +1,5 @@
 -- Terms as commands.
-use Rattle.std.proofs.Common.{◌≡◌, ◌+◌, ◌≤◌, List, [], refl, sym, subst, arith}
+use Rattle.std.proofs.Common.{◌≡◌, List, [], refl, sym, subst, arith}
 use Rattle.lego_term.specs.Trees.{Core}
 use Rattle.lego_laws.specs.Fitting.{FitsRule}
 use Rattle.lego_level.specs.Graphs.{pairs_of}

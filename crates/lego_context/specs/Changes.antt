@@ -3,8 +3,7 @@ use Rattle.std.specs.Prelude.{◌≡◌, ℕ, max, ◌+◌, ◌<◌, List, [], �
 use Rattle.lego_base.specs.declared.place.Place.{Place}
 use Rattle.lego_term.specs.declared.binder.Mark.{Mark}
 use Rattle.lego_term.specs.declared.binder.Mark.TheVariants.{Plain}
-use Rattle.lego_term.specs.declared.level.Level.{Level}
-use Rattle.lego_term.specs.Levels.{LevelPair, variable_level}
+use Rattle.lego_term.specs.Levels.{LevelPair}
 use Rattle.lego_term.specs.Trees.{Core}
 use Rattle.lego_laws.specs.Entries.{Entry}
 use Rattle.lego_laws.specs.Fitting.{FitsRule, FitsType, FitsWritten}
@@ -13,7 +12,6 @@ use Rattle.lego_level.specs.declared.constraint.Constraint.{Constraint}
 use Rattle.lego_level.specs.Graphs.{pairs_of, CanBeSatisfiedWithin}
 use Rattle.lego_inference.specs.declared.entry.Entry.{Entry as Item}
 use Rattle.lego_inference.specs.declared.entry.EntryKind.TheVariants.{Assumed, Defined}
-use Rattle.lego_inference.specs.declared.entry.Universe.{Universe}
 use Rattle.lego_inference.specs.Calls.{task_over}
 use Rattle.lego_inference.specs.Entries.{laws_entries}
 use Rattle.lego_inference.specs.Inferred.{AreGathered}

@@ -1,5 +1,5 @@
 -- The entries of a context: their constraints, names, numbers and kinds.
-use Rattle.std.specs.Prelude.{◌≡◌, ℕ, zero, suc, ◌<◌, ◌⊎◌, Bool, false, nat_eq, List, [], ◌∷◌, ◌++◌, map, filter_map, position, Option, Some, None, option_map, unwrap_or, All, Contains}
+use Rattle.std.specs.Prelude.{◌≡◌, ℕ, zero, suc, ◌<◌, ◌⊎◌, Bool, false, nat_eq, List, [], ◌∷◌, ◌++◌, filter_map, position, Option, Some, None, option_map, unwrap_or, All, Contains}
 use Rattle.lego_term.specs.Trees.{Core, Pi}
 use Rattle.lego_level.specs.declared.constraint.Constraint.{Constraint}
 use Rattle.lego_level.specs.Graphs.{Differ}

@@ -24,7 +24,6 @@ use lego_level::Graph;
 use lego_term::Bodies;
 use std::alloc::Global;
 use std::marker::Model;
-
 pub use typing::Settled;
 
 /// A list of entries, the oldest first, that is valid by the rules wherever the constraints kept

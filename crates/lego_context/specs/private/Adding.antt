@@ -1,5 +1,5 @@
 -- What the functions answer that put an entry behind the others.
-use Rattle.std.specs.Prelude.{◌≡◌, ℕ, ◌<◌, ◌≤◌, ◌⊎◌, List, [], ◌∷◌, ◌++◌, length, Option, Some, IfSome, Result, Ok, Err}
+use Rattle.std.specs.Prelude.{◌≡◌, ℕ, ◌<◌, ◌≤◌, List, [], length, Option, Some, IfSome, Result, Ok, Err}
 use Rattle.lego_term.specs.Levels.{Assignment, SatisfiesAll}
 use Rattle.lego_term.specs.Trees.{Core, at, loose}
 use Rattle.lego_laws.specs.Entries.{entries_at, kept}
@@ -20,7 +20,7 @@ use Rattle.lego_inference.specs.Calls.{IsTermOver}
 use Rattle.lego_inference.specs.Entries.{laws_entries}
 use Rattle.lego_inference.specs.Failures.{TypeFails}
 use Rattle.lego_inference.specs.Inferred.{AreGathered}
-use Rattle.lego_context.specs.Entries.{IsEntry, IsNoHole, HasNoHole, IsLeastFree}
+use Rattle.lego_context.specs.Entries.{IsEntry, HasNoHole, IsLeastFree}
 use Rattle.lego_context.specs.Contexts.{Contents, IsSmallEntry}
 use Rattle.lego_context.specs.Causes.{together, IsNewName}
 use Rattle.lego_context.specs.Settling.{IsUnsettled}

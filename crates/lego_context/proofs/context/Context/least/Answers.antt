@@ -1,6 +1,4 @@
-use Rattle.std.proofs.Common.{subst}
 use Rattle.lego_context.specs.Contexts.{Contents}
-use Rattle.lego_context.specs.Settling.{IsSettled}
 use Rattle.lego_context.proofs.SettleLemmas.{held_below, least_answers}
 use Rattle.lego_context.proofs.context.Context.least.Goals as goal
 

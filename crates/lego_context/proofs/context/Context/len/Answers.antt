@@ -1,5 +1,5 @@
 use Rattle.std.proofs.Common.{subst}
-use Rattle.lego_context.specs.Contexts.{IsContext, HoldsByLuosRules}
+use Rattle.lego_context.specs.Contexts.{IsContext}
 use Rattle.lego_context.proofs.FrontLemmas.{are_over_fronts}
 use Rattle.lego_context.proofs.PureLemmas.{holds_by_luos_rules}
 use Rattle.lego_context.proofs.context.Context.len.Goals as goal

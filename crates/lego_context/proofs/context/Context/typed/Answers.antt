@@ -1,4 +1,4 @@
-use Rattle.std.proofs.Common.{[], List, sym, subst}
+use Rattle.std.proofs.Common.{List, sym, subst}
 use Rattle.std.proofs.lemmas.Result.{err_from_is_err_and}
 use Rattle.lego_laws.specs.Places.{AnyType}
 use Rattle.lego_level.specs.declared.constraint.Constraint.{Constraint}
