@@ -140,14 +140,7 @@ fn typing(alloc: Global, under: &[Binder], term: Term, ty: Term) -> Result<Vec<u
         under: List::of(Vec::from_slice(alloc, under)?),
         term: ty,
     };
-    Ok(typing_text(
-        alloc,
-        &names,
-        &ENTRIES,
-        &term,
-        &ty,
-        Shown::Hidden,
-    )?)
+    Ok(typing_text(alloc, &names, &ENTRIES, &term, &ty, Shown::Hidden)?)
 }
 
 #[test]
