@@ -67,12 +67,12 @@ module _ (C : ℕ → Type 0) (n : ℕ) where
 
 -- an entry of a front is one of all
 found : (es : List Item) (at k : ℕ) → IsSome (entry_of (laws_entries (take at es)) k) → IsSome (entry_of (laws_entries es) k)
-found es zero k h = absurd h
-found [] (suc at) k h = absurd h
+found es zero k h = cc
+found [] (suc at) k h = cc
 found (e ∷ es) (suc at) k h =
     elim (nat_eq e.number k) as (λ b. IsSome (if b then Some (laws_entry e) else entry_of (laws_entries (take at es)) k)
       → IsSome (if b then Some (laws_entry e) else entry_of (laws_entries es) k)) [
-      | true ↦ λ i. tt
+      | true ↦ λ i. refl
       | false ↦ λ i. found es at k i
     ] h
 
@@ -106,11 +106,11 @@ named_entry (x ∷ es) n e is =
     itself : (k : ℕ) → nat_eq k k ≡ true
     itself k = grind (arith, nat_tests)
     here : Some x ≡ Some e → IsSome (entry_of (x ∷ es) e.number)
-    here h = let same : x ≡ e = cc in subst (λ (y : Entry). IsSome (entry_of (x ∷ es) y.number)) same (rw (itself x.number) tt)
+    here h = let same : x ≡ e = cc in subst (λ (y : Entry). IsSome (entry_of (x ∷ es) y.number)) same (rw (itself x.number) refl)
     later : entry_named es n ≡ Some e → IsSome (if nat_eq x.number e.number then Some x else entry_of es e.number)
     later h = either (nat_eq x.number e.number) (named_entry es n e h)
     either : (b : Bool) → IsSome (entry_of es e.number) → IsSome (if b then Some x else entry_of es e.number)
-    either true h = tt
+    either true h = refl
     either false h = h
 
 position_below : (q : Place → Bool) (ps : List Place) (i : ℕ) → position q ps ≡ Some i → i < length ps
