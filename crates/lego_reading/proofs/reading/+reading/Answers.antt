@@ -10,7 +10,7 @@ use Rattle.lego_reading.specs.private.Sizes.{nodes}
 use Rattle.lego_grammar.specs.Written.{Written}
 use Rattle.lego_grammar.specs.Reading.{binder}
 use Rattle.lego_reading.specs.Universes.{variables_for}
-use Rattle.lego_reading.specs.private.Binders.{written_argument}
+use Rattle.lego_reading.specs.private.Binders.{AreDomains, inner_scope, written_argument}
 use Rattle.lego_reading.proofs.RunLemmas.{arguments_stop}
 use Rattle.lego_reading.proofs.SizeLemmas.{written-Name, written-Prop, written-AnyType, written-TypeAt, written-Hole, written-Local, written-Pair, written-Apply, written-Project, nodes-Local, nodes-Pair, nodes-Apply, nodes-Project, nodes_of_all}
 use Rattle.lego_grammar.specs.Scopes.{LocalVariable, Scope}
@@ -287,3 +287,26 @@ pub named-returns-clause-scope : goal.named-returns-clause-scope
 named-returns-clause-scope t c =
     on_any c.enclosed.result (c.leave.ensures ∙ ap (λ (z : Scope). drop (length c.args.head.now.names.now) z) (c.in_ok-body.ensures.scope ∙ c.in_ok-domains.ensures.scope)
       ∙ drop-inner c.args.scope.now c.args.head.now.names.now)
+
+pub application-loop-mark-init : goal.application-loop-mark-init
+application-loop-mark-init t c = (c.in_ok-applied.ensures.core, c.in_ok-applied.ensures.scope)
+
+pub domains-loop-name-init : goal.domains-loop-name-init
+domains-loop-name-init t c = (rw c.new-domains.ensures.items AreDomains.none, refl)
+
+pub domains-returns-in_default-clause-err : goal.domains-returns-in_default-clause-err
+domains-returns-in_default-clause-err t c = Stops.memory
+
+pub domains-returns-in_err-push-clause-err : goal.domains-returns-in_err-push-clause-err
+domains-returns-in_err-push-clause-err t c =
+    let e = err_from_is_err_and c.from_residual-in_err-push.result c.from_residual-in_err-push.ensures.1 in
+    rw (e.1, e.2) Stops.memory
+
+pub domains-returns-clause-cores : goal.domains-returns-clause-cores
+domains-returns-clause-cores t c =
+    subst (λ ns. AreDomains (laws_entries c.args.setting.now.context.now.entries) (variables_for c.args.setting.now.context.now.levels c.args.setting.now.places.now) (written c.args.head.now.domain.now) c.args.scope.now ns c.loop-name.domains.items)
+    (take_all c.loop-name.name-index c.args.head.now.names.now c.loop-name-test.false) c.loop-name.invariant.0
+
+pub domains-returns-clause-scope : goal.domains-returns-clause-scope
+domains-returns-clause-scope t c =
+    c.loop-name.invariant.1 ∙ ap (inner_scope c.args.scope.now) (take_all c.loop-name.name-index c.args.head.now.names.now c.loop-name-test.false)
