@@ -20,7 +20,7 @@ use Rattle.lego_reading.proofs.OverLemmas.{core_over}
 pub ready : (c : Contents) (places : List Place) (s : Written) → CanBeRead s → places ≡ places_of s → c.levels + length places ≤ 1048576
     → IsReady c places [] s
 ready c places s can is room = record {
-  few = can.few;
+  few = (let f = can.few in omega arith);
   held = subst (λ ps. AllByRecursion (λ p. IsSome (variables_for c.levels ps p)) (type_places s)) (sym is) (all_held c.levels [] (type_places s));
   room = room;
   over = tt;

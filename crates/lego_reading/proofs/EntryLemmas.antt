@@ -57,7 +57,7 @@ entry_at (x ∷ es) n i e p at =
   where
     here : (i : ℕ) → ◌≡◌ {A = Option ℕ} (Some 0) (Some i) → slice_get (x ∷ es) i ≡ Some e → ◌≡◌ {A = Option Entry} (Some (laws_entry x)) (Some (laws_entry e))
     here zero h a = let same : x ≡ e = cc in ap (λ (z : Item). Some (laws_entry z)) same
-    here (suc i) h a = let wrong : 0 ≡ suc i = cc in omega (arith, wrong)
+    here (suc i) h a = let wrong : 0 ≡ suc i = cc in absurd (omega (arith, wrong))
     later : (i : ℕ) → ((j : ℕ) → position_of es n ≡ Some j → slice_get es j ≡ Some e → entry_named (laws_entries es) n ≡ Some (laws_entry e))
         → option_map suc (position_of es n) ≡ Some i → slice_get (x ∷ es) i ≡ Some e → entry_named (laws_entries es) n ≡ Some (laws_entry e)
     later zero go h a = absurd (not_zero (position_of es n) h)

@@ -48,7 +48,7 @@ module _ (C : ℕ → Type 0) (n : ℕ) where
   parts_of_leaves (Let x a r) h b = (tt, parts_of_leaves a h.1 (omega arith), parts_of_leaves r h.2 (omega arith))
 
   leaves_of_parts : (t : Core) → EachPart AnyBinder C (IsHeldLevel n) t → EachLeaf C (λ l. l.plus ≤ 1000000) t
-  leaves_of_parts t h = parts_follow (λ kind x i. i) (λ k i. i) (λ l i. i.0) t h
+  leaves_of_parts t h = parts_follow {P = AnyBinder} {P' = AnyBinder} {C = C} {C' = C} {L = IsHeldLevel n} {L' = λ l. l.plus ≤ 1000000} (λ kind x i. i) (λ k i. i) (λ l i. i.0) t h
 
   bound_of_parts : (t : Core) → EachPart AnyBinder C (IsHeldLevel n) t → levels_bound t ≤ n
   bound_of_parts (Var i) h = omega arith
@@ -67,12 +67,12 @@ module _ (C : ℕ → Type 0) (n : ℕ) where
 
 -- an entry of a front is one of all
 found : (es : List Item) (at k : ℕ) → IsSome (entry_of (laws_entries (take at es)) k) → IsSome (entry_of (laws_entries es) k)
-found es zero k h = absurd h
-found [] (suc at) k h = absurd h
+found es zero k h = cc
+found [] (suc at) k h = cc
 found (e ∷ es) (suc at) k h =
     elim (nat_eq e.number k) as (λ b. IsSome (if b then Some (laws_entry e) else entry_of (laws_entries (take at es)) k)
       → IsSome (if b then Some (laws_entry e) else entry_of (laws_entries es) k)) [
-      | true ↦ λ i. tt
+      | true ↦ λ i. refl
       | false ↦ λ i. found es at k i
     ] h
 
@@ -100,30 +100,28 @@ named_entry [] n e is = cc
 named_entry (x ∷ es) n e is =
     elim (is_named n x.name) as (λ b. (if b then Some x else entry_named es n) ≡ Some e → IsSome (entry_of (x ∷ es) e.number)) [
       | true ↦ λ h. here h
-      | false ↦ λ h. later h
+      | false ↦ λ h. later (nat_eq x.number e.number) (named_entry es n e h)
     ] is
   where
     itself : (k : ℕ) → nat_eq k k ≡ true
     itself k = grind (arith, nat_tests)
     here : Some x ≡ Some e → IsSome (entry_of (x ∷ es) e.number)
-    here h = let same : x ≡ e = cc in subst (λ (y : Entry). IsSome (entry_of (x ∷ es) y.number)) same (rw (itself x.number) tt)
-    later : entry_named es n ≡ Some e → IsSome (if nat_eq x.number e.number then Some x else entry_of es e.number)
-    later h = either (nat_eq x.number e.number) (named_entry es n e h)
-    either : (b : Bool) → IsSome (entry_of es e.number) → IsSome (if b then Some x else entry_of es e.number)
-    either true h = tt
-    either false h = h
+    here h = let same : x ≡ e = cc in subst (λ (y : Entry). IsSome (entry_of (x ∷ es) y.number)) same (rw (itself x.number) refl)
+    later : (b : Bool) → IsSome (entry_of es e.number) → IsSome (if b then Some x else entry_of es e.number)
+    later true h = refl
+    later false h = h
+
+below_later : (o : Option ℕ) (n i : ℕ) → ((j : ℕ) → o ≡ Some j → j < n) → option_map suc o ≡ Some i → i < suc n
+below_later None n i h e = cc
+below_later (Some j) n i h e = let l = h j refl in let is : suc j ≡ i = cc in omega arith
 
 position_below : (q : Place → Bool) (ps : List Place) (i : ℕ) → position q ps ≡ Some i → i < length ps
 position_below q [] i e = cc
 position_below q (p ∷ ps) i e =
     elim (q p) as (λ b. (if b then Some 0 else option_map suc (position q ps)) ≡ Some i → i < suc (length ps)) [
       | true ↦ λ h. (let is : 0 ≡ i = cc in omega arith)
-      | false ↦ λ h. later (position q ps) refl h
+      | false ↦ λ h. below_later (position q ps) (length ps) i (λ j a. position_below q ps j a) h
     ] (sym (position-cons q p ps) ∙ e)
-  where
-    later : (o : Option ℕ) → position q ps ≡ o → option_map suc o ≡ Some i → i < suc (length ps)
-    later None a h = cc
-    later (Some j) a h = let l = position_below q ps j a in let is : suc j ≡ i = cc in omega arith
 
 variable_below : (next : ℕ) (ps : List Place) (p : Place) (u : ℕ) → variables_for next ps p ≡ Some u → suc u ≤ next + length ps
 variable_below next ps p u e = by_place (position (is_place p) ps) refl e
@@ -139,7 +137,8 @@ module _ (c : Contents) where
       let found_body = body_at c.entries k t e in
       let is_over : IsTermOver (take found_body.at c.entries) [] c.levels t = some_body _ found_body.entry.body t (over found_body.at found_body.entry found_body.there).body found_body.body in
       parts_of_leaves (λ j. IsSome (entry_of (laws_entries c.entries) j)) n t
-      (parts_follow (λ kind x i. i) (λ j h. found c.entries found_body.at j h) (λ l i. i) t is_over.names)
+      (parts_follow {P = AnyBinder} {P' = AnyBinder} {C = λ j. IsSome (entry_of (laws_entries (take found_body.at c.entries)) j)}
+        {C' = λ j. IsSome (entry_of (laws_entries c.entries) j)} {L = λ l. l.plus ≤ 1000000} {L' = λ l. l.plus ≤ 1000000} (λ kind x i. i) (λ j h. found c.entries found_body.at j h) (λ l i. i) t is_over.names)
       (let l = is_over.levels_within in omega arith)
 
   core_is_over : (ps : List Place) (s : Written) (core : Core) → AreOverFronts c → HasSmallLevels s

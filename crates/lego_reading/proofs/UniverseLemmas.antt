@@ -81,7 +81,7 @@ module _ (q : Place → Bool) where
       there (p ∷ ps) h =
           subst IsSome (sym (position-cons q p ps))
           (elim (q p) as (λ b. (b || list_any q ps) ≡ true → IsSome (if b then Some 0 else option_map suc (position q ps))) [
-            | true ↦ λ e. tt
+            | true ↦ λ e. refl
             | false ↦ λ e. mapped (position q ps) suc (there ps e)
           ] h)
       found : (ps : List Place) (n : ℕ) → list_any q ps ≡ true → IsSome (option_map (λ i. n + i) (position q ps))

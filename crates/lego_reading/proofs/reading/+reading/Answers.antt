@@ -3,20 +3,23 @@ use Rattle.std.proofs.lemmas.Result.{err_from_is_err_and}
 use Rattle.lego_term.specs.declared.binder.Mark.TheVariants.{Plain}
 use Rattle.lego_term.specs.Trees.{Core, Pair, Let}
 use Rattle.std.proofs.lemmas.List.{take_all}
-use Rattle.lego_grammar.specs.Surface.{written, applied}
+use Rattle.lego_grammar.specs.Surface.{written, applied, projected}
+use Rattle.lego_grammar.specs.declared.surface.Surface.{Surface}
+use Rattle.lego_term.specs.declared.binder.Mark.{Mark}
+use Rattle.lego_reading.specs.private.Sizes.{nodes}
 use Rattle.lego_grammar.specs.Written.{Written}
 use Rattle.lego_grammar.specs.Reading.{binder}
 use Rattle.lego_reading.specs.Universes.{variables_for}
-use Rattle.lego_reading.specs.private.Binders.{written_argument}
+use Rattle.lego_reading.specs.private.Binders.{AreDomains, inner_scope, written_argument}
 use Rattle.lego_reading.proofs.RunLemmas.{arguments_stop}
-use Rattle.lego_reading.proofs.SizeLemmas.{written-Name, written-Prop, written-AnyType, written-TypeAt, written-Hole, written-Local}
+use Rattle.lego_reading.proofs.SizeLemmas.{written-Name, written-Prop, written-AnyType, written-TypeAt, written-Hole, written-Local, written-Pair, written-Apply, written-Project, nodes-Local, nodes-Pair, nodes-Apply, nodes-Project, nodes_of_all}
 use Rattle.lego_grammar.specs.Scopes.{LocalVariable, Scope}
 use Rattle.lego_inference.specs.Entries.{laws_entries}
 use Rattle.lego_reading.specs.private.Variables.{AreOver}
 use Rattle.lego_reading.proofs.AnnotationLemmas.{annotated_at}
 use Rattle.lego_reading.specs.private.Parts.{IsReady, IsReading, Stops, ReadsAs}
 use Rattle.lego_reading.proofs.PartLemmas.{unknown_goal, stops_at, reading_at, on_any, nameless_is, domain_stops, nameless_stops, local_is, value_stops, local_stops, pair_is, pair_type_stops, annotation_stops, first_stops, second_stops}
-use Rattle.lego_reading.proofs.ReadyLemmas.{ready_applied, ready_in, ready_domain, ready_body, ready_nameless, ready_value, ready_local, ready_type, ready_first, ready_second}
+use Rattle.lego_reading.proofs.ReadyLemmas.{ready_applied, ready_projected, length-inner, ready_in, ready_domain, ready_body, ready_nameless, ready_value, ready_local, ready_type, ready_first, ready_second}
 use Rattle.lego_reading.proofs.BinderLemmas.{body_halts, drop-inner, domains_length}
 use Rattle.lego_reading.proofs.reading.+reading.Goals as goal
 
@@ -220,3 +223,90 @@ application-returns-clause-core t c =
     subst (λ xs. IsReading (laws_entries c.args.setting.now.context.now.entries) (variables_for c.args.setting.now.context.now.levels c.args.setting.now.places.now)
       c.args.scope.now (applied (written c.args.function.now) (map written_argument xs)) c.loop-mark.applied)
     (take_all c.loop-mark.mark-index c.args.arguments.now c.loop-mark-test.false) c.loop-mark.invariant.0
+
+pub core_of-local_definition-requires : goal.core_of-local_definition-requires
+core_of-local_definition-requires t c =
+    let falls = c.decreases in let size = ap nodes c.in-Local.is ∙ nodes-Local c.in-Local.name c.in-Local.value c.in-Local.body in let n0 = ap nodes c.get-in-Local.ensures in let n1 = ap nodes c.get-in-Local-2.ensures in
+    (omega arith, subst (λ (w : Written). IsReady c.args.setting.now.context.now c.args.setting.now.places.now c.args.scope.now w) (ap written c.in-Local.is ∙ written-Local c.in-Local.name c.in-Local.value c.in-Local.body ∙ sym (λ z. Written.Local c.in-Local.name (written (c.get-in-Local.ensures z)) (written (c.get-in-Local-2.ensures z)))) c.requires)
+
+pub core_of-pairing-requires : goal.core_of-pairing-requires
+core_of-pairing-requires t c =
+    let falls = c.decreases in let size = ap nodes c.in-Pair.is ∙ nodes-Pair c.in-Pair.first c.in-Pair.second c.in-Pair.ty in let n0 = ap nodes c.get-in-Pair.ensures in let n1 = ap nodes c.get-in-Pair-2.ensures in let n2 = ap nodes c.get-in-Pair-3.ensures in
+    (omega arith, subst (λ (w : Written). IsReady c.args.setting.now.context.now c.args.setting.now.places.now c.args.scope.now w) (ap written c.in-Pair.is ∙ written-Pair c.in-Pair.first c.in-Pair.second c.in-Pair.ty ∙ sym (λ z. Written.Pair (written (c.get-in-Pair.ensures z)) (written (c.get-in-Pair-2.ensures z)) (written (c.get-in-Pair-3.ensures z)))) c.requires)
+
+pub core_of-returns-in-Pair-clause-core : goal.core_of-returns-in-Pair-clause-core
+core_of-returns-in-Pair-clause-core t c =
+    subst (λ (w : Written). ReadsAs c.args.setting.now.context.now c.args.setting.now.places.now c.args.setting.now.limit c.args.scope.now w c.pairing.result) (sym (ap written c.in-Pair.is ∙ written-Pair c.in-Pair.first c.in-Pair.second c.in-Pair.ty ∙ sym (λ z. Written.Pair (written (c.get-in-Pair.ensures z)) (written (c.get-in-Pair-2.ensures z)) (written (c.get-in-Pair-3.ensures z))))) c.pairing.ensures.core
+
+pub core_of-returns-in-Pair-clause-scope : goal.core_of-returns-in-Pair-clause-scope
+core_of-returns-in-Pair-clause-scope t c = c.pairing.ensures.scope
+
+pub core_of-application-requires : goal.core_of-application-requires
+core_of-application-requires t c =
+    let falls = c.decreases in let size = ap nodes c.in-Apply.is ∙ nodes-Apply c.in-Apply.function c.in-Apply.arguments in let n0 = ap nodes c.get-in-Apply.ensures in let n1 = ap (λ (xs : List (Mark × Surface)). nodes_of_all xs) c.items-in-Apply.ensures in
+    (omega arith, subst (λ (w : Written). IsReady c.args.setting.now.context.now c.args.setting.now.places.now c.args.scope.now w) (ap written c.in-Apply.is ∙ written-Apply c.in-Apply.function c.in-Apply.arguments ∙ sym (λ z. applied (written (c.get-in-Apply.ensures z)) (map written_argument (c.items-in-Apply.ensures z)))) c.requires)
+
+pub core_of-returns-in-Apply-clause-core : goal.core_of-returns-in-Apply-clause-core
+core_of-returns-in-Apply-clause-core t c =
+    subst (λ (w : Written). ReadsAs c.args.setting.now.context.now c.args.setting.now.places.now c.args.setting.now.limit c.args.scope.now w c.application.result) (sym (ap written c.in-Apply.is ∙ written-Apply c.in-Apply.function c.in-Apply.arguments ∙ sym (λ z. applied (written (c.get-in-Apply.ensures z)) (map written_argument (c.items-in-Apply.ensures z))))) c.application.ensures.core
+
+pub core_of-returns-in-Apply-clause-scope : goal.core_of-returns-in-Apply-clause-scope
+core_of-returns-in-Apply-clause-scope t c = c.application.ensures.scope
+
+pub core_of-core_of-requires : goal.core_of-core_of-requires
+core_of-core_of-requires t c =
+    let falls = c.decreases in let size = ap nodes c.in-Project.is ∙ nodes-Project c.in-Project.of c.in-Project.parts in let n0 = ap nodes c.get-in-Project.ensures in
+    (omega arith, ready_projected (written c.get-in-Project.result.now) c.in-Project.parts (subst (λ (w : Written). IsReady c.args.setting.now.context.now c.args.setting.now.places.now c.args.scope.now w) (ap written c.in-Project.is ∙ written-Project c.in-Project.of c.in-Project.parts ∙ sym (λ z. projected (written (c.get-in-Project.ensures z)) c.in-Project.parts)) c.requires))
+
+pub named-domains-requires : goal.named-domains-requires
+named-domains-requires t c = let falls = c.decreases in (omega arith, c.requires.ready)
+
+pub named-returns-in_err-domains-clause-core : goal.named-returns-in_err-domains-clause-core
+named-returns-in_err-domains-clause-core t c =
+    let e = err_from_is_err_and c.from_residual.result c.from_residual.ensures.1 in
+    rw (e.1, e.2) c.in_err-domains.ensures.err
+
+pub named-core_of-requires : goal.named-core_of-requires
+named-core_of-requires t c = let falls = c.decreases in (omega arith, ready_in c.in_ok-domains.ensures.scope (ready_body c.requires.ready))
+
+pub named-returns-in_err-body-clause-core : goal.named-returns-in_err-body-clause-core
+named-returns-in_err-body-clause-core t c =
+    let e = err_from_is_err_and c.from_residual-in_err-body.result c.from_residual-in_err-body.ensures.1 in
+    rw (e.1, e.2) (body_halts c.args.setting.now.limit c.args.head.now.kind c.args.head.now.mark (written c.args.body.now) c.in_err-body.field-0.0 c.requires.names
+      c.in_ok-domains.ensures.cores (stops_at c.in_ok-domains.ensures.scope c.in_err-body.ensures.core))
+
+pub named-leave-requires : goal.named-leave-requires
+named-leave-requires t c =
+    let k = ap (λ (z : Scope). length z) (c.in_ok-body.ensures.scope ∙ c.in_ok-domains.ensures.scope) in
+    let e = length-inner c.args.scope.now c.args.head.now.names.now in omega arith
+
+pub named-enclosed-requires-clause-names : goal.named-enclosed-requires-clause-names
+named-enclosed-requires-clause-names t c = c.requires.names
+
+pub named-returns-clause-scope : goal.named-returns-clause-scope
+named-returns-clause-scope t c =
+    on_any c.enclosed.result (c.leave.ensures ∙ ap (λ (z : Scope). drop (length c.args.head.now.names.now) z) (c.in_ok-body.ensures.scope ∙ c.in_ok-domains.ensures.scope)
+      ∙ drop-inner c.args.scope.now c.args.head.now.names.now)
+
+pub application-loop-mark-init : goal.application-loop-mark-init
+application-loop-mark-init t c = (c.in_ok-applied.ensures.core, c.in_ok-applied.ensures.scope)
+
+pub domains-loop-name-init : goal.domains-loop-name-init
+domains-loop-name-init t c = (rw c.new-domains.ensures.items AreDomains.none, refl)
+
+pub domains-returns-in_default-clause-err : goal.domains-returns-in_default-clause-err
+domains-returns-in_default-clause-err t c = Stops.memory
+
+pub domains-returns-in_err-push-clause-err : goal.domains-returns-in_err-push-clause-err
+domains-returns-in_err-push-clause-err t c =
+    let e = err_from_is_err_and c.from_residual-in_err-push.result c.from_residual-in_err-push.ensures.1 in
+    rw (e.1, e.2) Stops.memory
+
+pub domains-returns-clause-cores : goal.domains-returns-clause-cores
+domains-returns-clause-cores t c =
+    subst (λ ns. AreDomains (laws_entries c.args.setting.now.context.now.entries) (variables_for c.args.setting.now.context.now.levels c.args.setting.now.places.now) (written c.args.head.now.domain.now) c.args.scope.now ns c.loop-name.domains.items)
+    (take_all c.loop-name.name-index c.args.head.now.names.now c.loop-name-test.false) c.loop-name.invariant.0
+
+pub domains-returns-clause-scope : goal.domains-returns-clause-scope
+domains-returns-clause-scope t c =
+    c.loop-name.invariant.1 ∙ ap (inner_scope c.args.scope.now) (take_all c.loop-name.name-index c.args.head.now.names.now c.loop-name-test.false)
