@@ -30,7 +30,7 @@ use Rattle.lego_session.specs.private.Shown.{TypingFailsSo, FormFails, IsNotReac
 use Rattle.lego_session.specs.declared.refusal.Cause.{Cause}
 use Rattle.lego_session.specs.declared.refusal.Cause.TheVariants.{Memory}
 use Rattle.lego_session.specs.declared.refusal.Reason.{Reason}
-use Rattle.lego_session.proofs.ExtendLemmas.{types-entries}
+use Rattle.lego_session.proofs.ExtendLemmas.{types-entries, extends-same, extends-types}
 
 moved : {limit : ℕ} {c : Contents} {place : Place} {m : Written} {p q : Place} {x y : Cause} → p ≡ q → x ≡ y → HasNoType limit c place m q y → HasNoType limit c place m p x
 moved {limit} {c} {place} {m} {p} {q} {x} {y} at is h = subst (λ z. HasNoType limit c place m p z) (sym is) (subst (λ r. HasNoType limit c place m r y) (sym at) h)
@@ -107,3 +107,8 @@ module _ (names : Names) (c new : Contents) (m : Written) (core : Core) (judged 
 pub no_type_fails : (form : Form) (limit : ℕ) (c : Contents) (place : Place) (m : Written) (reason : Reason) → TypingFailsSo limit c place m reason → FormFails form limit c place m reason
 no_type_fails form limit c place m reason (inl memory) = inl memory
 no_type_fails form limit c place m reason (inr h) = inr (HasNoForm.no_type h)
+
+-- typing a term leaves the context, or adds its universes
+pub types_extend : (c new : Contents) (m : Written) → (new ≡ c) ⊎ (new ≡ with_types_of c m) → Extends c new
+types_extend c new m (inl same) = extends-same c new same
+types_extend c new m (inr is) = extends-types c new m is

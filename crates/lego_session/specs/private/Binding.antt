@@ -101,10 +101,10 @@ pub record IsNotAssumed (mark : Mark) (ty : Core) (asked : At) (old : Contents) 
   pub at : reason.place ≡ asked.place
   pub is_cause : reason.cause ≡ cause_of fault
 
--- what the reading of a definition answers
+-- what the reading of a definition answers, whatever its names
 abbrev pub ReadsWholeDefinition : Contents → Written → Option Written → At → Contents → Result (Core × Option Core) Reason → Type 0
 ReadsWholeDefinition old m t asked new (Ok cores) = ReadsDefinition old m t cores.0 cores.1 new × IsOverContext new cores.0 × IfSome cores.1 (IsOverContext new)
-ReadsWholeDefinition old m t asked new (Err reason) = EntriesFail asked.limit old asked.place [] (Defined m t) reason
+ReadsWholeDefinition old m t asked new (Err reason) = (names : List ℕ) → EntriesFail asked.limit old asked.place names (Defined m t) reason
 
 -- the text has a line for each entry from a place on, at the least levels
 pub record ShowsAdded (names : Names) (c : Contents) (from : ℕ) (text : List ℕ) : Type 0 where

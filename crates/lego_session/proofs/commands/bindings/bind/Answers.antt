@@ -1,0 +1,44 @@
+use Rattle.std.proofs.Common.{◌≡◌, ℕ, ◌<◌, ◌≤◌, List, [], ◌∷◌, map, take, length, slice_get, Option, Some, None, option_map, Result, Ok, Err, refl, sym, ap, ◌∙◌, subst, inl, inr, arith}
+use Rattle.std.proofs.lemmas.Option.{slice_get_within}
+use Rattle.lego_grammar.specs.Surface.{written_binding}
+use Rattle.lego_undo.specs.declared.state.State.{State}
+use Rattle.lego_session.specs.commands.Bindings.{AreNew}
+use Rattle.lego_session.specs.private.Binding.{IsFirstUsed}
+use Rattle.lego_session.proofs.BindingsLemmas.{in_use_fails}
+use Rattle.lego_session.proofs.ExtendLemmas.{extends-self, extends-same, has_extent, front_back}
+use Rattle.lego_session.proofs.commands.bindings.bind.Goals as goal
+
+pub returns-in_default-clause-extends : goal.returns-in_default-clause-extends
+returns-in_default-clause-extends c = extends-self c.args.state.now.context
+
+pub in_use-requires-clause-places : goal.in_use-requires-clause-places
+in_use-requires-clause-places c =
+    let used = subst (λ (o : Option ℕ). IsFirstUsed c.args.state.now.context.entries c.items.result.now o) c.in-Some.is c.in-Ok.ensures in
+    let within = slice_get_within c.items.result.now c.in-Some.at used.0 used.1 in
+    let same = ap (λ (ns : List ℕ). length ns) c.items.ensures in
+    let places = c.requires.right.places in
+    omega (arith, within, same, places)
+
+pub in_use-requires-clause-names : goal.in_use-requires-clause-names
+in_use-requires-clause-names c =
+    let used = subst (λ (o : Option ℕ). IsFirstUsed c.args.state.now.context.entries c.items.result.now o) c.in-Some.is c.in-Ok.ensures in
+    let within = slice_get_within c.items.result.now c.in-Some.at used.0 used.1 in
+    let same = ap (λ (ns : List ℕ). length ns) c.items.ensures in
+    omega (arith, within, same)
+
+pub returns-in-Some-clause-cause : goal.returns-in-Some-clause-cause
+returns-in-Some-clause-cause c =
+    let used = subst (λ (o : Option ℕ). IsFirstUsed c.args.state.now.context.entries c.items.result.now o) c.in-Some.is c.in-Ok.ensures in
+    in_use_fails c.args.limit c.args.state.now.context (written_binding c.args.binding.now) c.in-Some.at c.in_use.result
+    (subst (λ (ns : List ℕ). IsFirstUsed c.args.state.now.context.entries ns (Some c.in-Some.at)) c.items.ensures used) c.in_use.ensures.place c.in_use.ensures.cause
+
+pub returns-in-Some-clause-extends : goal.returns-in-Some-clause-extends
+returns-in-Some-clause-extends c = extends-self c.args.state.now.context
+
+pub make-requires-clause-new : goal.make-requires-clause-new
+make-requires-clause-new c =
+    let new = subst (λ (o : Option ℕ). IsFirstUsed c.args.state.now.context.entries c.items.result.now o) c.in_default-used.is c.in-Ok.ensures in
+    subst (λ (ns : List ℕ). AreNew c.args.state.now.context.entries ns) c.items.ensures new
+
+pub returns-in-Err-clause-extends : goal.returns-in-Err-clause-extends
+returns-in-Err-clause-extends c = ?
