@@ -122,22 +122,7 @@ typed_commands_meet_limits_alone limit old first p (Bindings bs) es cause h r = 
 typed_commands_meet_limits_alone limit old first p (Hnf m) es cause h r = form_is_of_limits h r.1
 typed_commands_meet_limits_alone limit old first p (Normal m) es cause h r = form_is_of_limits h r.1
 typed_commands_meet_limits_alone limit old first p (Show m) es cause h r = term_is_of_limits h r.1
-typed_commands_meet_limits_alone limit old first p (WrittenAct.Goal x w) es cause h r = absurd h
-typed_commands_meet_limits_alone limit old first p (WrittenAct.Intros ps ns) es cause h r = absurd h
-typed_commands_meet_limits_alone limit old first p (WrittenAct.Refine w) es cause h r = absurd h
-typed_commands_meet_limits_alone limit old first p (WrittenAct.Claim w) es cause h r = absurd h
-typed_commands_meet_limits_alone limit old first p (WrittenAct.Equiv w) es cause h r = absurd h
-typed_commands_meet_limits_alone limit old first p (WrittenAct.Next n) es cause h r = absurd h
-typed_commands_meet_limits_alone limit old first p WrittenAct.Assumption es cause h r = absurd h
-typed_commands_meet_limits_alone limit old first p WrittenAct.KillRef es cause h r = absurd h
-typed_commands_meet_limits_alone limit old first p WrittenAct.Prf es cause h r = absurd h
-typed_commands_meet_limits_alone limit old first p WrittenAct.Explicit es cause h r = absurd h
-typed_commands_meet_limits_alone limit old first p WrittenAct.Implicit es cause h r = absurd h
-typed_commands_meet_limits_alone limit old first p (WrittenAct.Save x) es cause h r = absurd h
-typed_commands_meet_limits_alone limit old first p (WrittenAct.Discharge x) es cause h r = absurd h
-typed_commands_meet_limits_alone limit old first p (WrittenAct.Undo n) es cause h r = absurd h
-typed_commands_meet_limits_alone limit old first p (WrittenAct.Forget x) es cause h r = absurd h
-typed_commands_meet_limits_alone limit old first p WrittenAct.Ctxt es cause h r = absurd h
+typed_commands_meet_limits_alone limit old first p _ es cause h r = absurd h
 
 -- so is a command, with what it answers
 pub refused_for_limits : (names : Names) (limit : ℕ) (old : Session) (o : WrittenCommand) (r : Result Answer Refusal)
