@@ -1,21 +1,17 @@
 -- Commands whose terms have typings are refused for limits alone.
-use Rattle.std.proofs.Common.{◌≡◌, ℕ, List, [], ◌∷◌, ◌++◌, Option, Some, None, refl, sym, ap, subst}
+use Rattle.std.proofs.Common.{◌≡◌, ℕ, List, [], Option, Some, None, Result, Ok, Err, IfErr, inl, inr, refl, sym, subst}
 use Rattle.std.proofs.lemmas.Option.{slice_get_within}
 use Rattle.lego_base.specs.declared.place.Place.{Place}
 use Rattle.lego_term.specs.Trees.{Core}
-use Rattle.lego_term.specs.declared.binder.Mark.{Mark}
 use Rattle.lego_laws.specs.Places.{Task}
-use Rattle.lego_grammar.specs.Scopes.{TypeVariables}
-use Rattle.lego_grammar.specs.ReadingOrder as reading
-use Rattle.lego_grammar.specs.Written.{Written, WrittenKind, Assumed, Defined, WrittenBinding, WrittenAct, Bindings, Hnf, Normal, Show}
+use Rattle.lego_grammar.specs.Grammar.{Names}
+use Rattle.lego_grammar.specs.Written.{Written, WrittenKind, WrittenBinding, WrittenAct, Bindings, Hnf, Normal, Show, WrittenCommand}
 use Rattle.lego_grammar.proofs.ReadOnce.{one_core}
 use Rattle.lego_grammar.proofs.ReadingRefusals.{refusals_exclude_reading}
 use Rattle.lego_inference.specs.declared.entry.At.{At}
 use Rattle.lego_inference.specs.declared.entry.Entry.{Entry as Item}
 use Rattle.lego_inference.specs.declared.fault.TypeFault.{TypeFault}
-use Rattle.lego_inference.specs.declared.fault.TypeFault.TheVariants as Type
 use Rattle.lego_inference.specs.Causes.{HasNoTyping}
-use Rattle.lego_inference.specs.Entries.{laws_entries}
 use Rattle.lego_inference.specs.Failures.{TypeFails}
 use Rattle.lego_context.specs.Causes.{TypingFails, AddFails}
 use Rattle.lego_context.specs.Changes.{type_task, body_task}
@@ -26,12 +22,14 @@ use Rattle.lego_reading.specs.Universes.{with_types_of}
 use Rattle.lego_reading.specs.Failures.{Fails, HasNoHeadForm}
 use Rattle.lego_reading.specs.declared.fault.ReadFault.{ReadFault}
 use Rattle.lego_session.specs.Causes.{read_cause, cause_of}
-use Rattle.lego_session.specs.Completeness.{IsOfLimits, HasTyping, AreTypedEntries, IsTypedBinding, AreTypedBindings, IsTypedTerm, IsTypedAct, TypedCommandsMeetLimitsAlone}
+use Rattle.lego_session.specs.Completeness.{IsOfLimits, HasTyping, AreTypedEntries, AreTypedBindings, IsTypedTerm, IsTypedAct, TypedCommandsMeetLimitsAlone}
 use Rattle.lego_session.specs.Sessions.{Session, context_of}
-use Rattle.lego_session.specs.Step.{IsRefused}
-use Rattle.lego_session.specs.commands.Bindings.{ReadsDefinition, AreEntriesRefused, IsBindingRefused, AreRefused}
+use Rattle.lego_session.specs.Step.{IsRefusal}
+use Rattle.lego_session.specs.commands.Bindings.{AssumesAll, ReadsDefinition, AreEntriesRefused, IsBindingRefused, AreRefused}
 use Rattle.lego_session.specs.commands.Show.{Form, HasNoType, HasNoForm}
 use Rattle.lego_session.specs.declared.refusal.Cause.{Cause}
+use Rattle.lego_session.specs.declared.refusal.Refusal.{Refusal}
+use Rattle.lego_session.specs.declared.session.Answer.{Answer}
 
 no_typing : {t : Task} {cause : Cause} → HasTyping t → HasNoTyping t → IsOfLimits cause
 no_typing h n = absurd (n h.values h.satisfies h.typed)
@@ -92,11 +90,10 @@ written_is_of_limits (ReadsDefinition.typed p r) u = unread_is_of_limits r u
 entries_are_of_limits : {limit : ℕ} {old : Contents} {place p : Place} {names : List ℕ} {kind : WrittenKind} {cause : Cause}
     → AreTypedEntries old place names kind → AreEntriesRefused limit old place names kind p cause → IsOfLimits cause
 entries_are_of_limits (AreTypedEntries.assumptions r typed) (AreEntriesRefused.type_unread u) = unread_is_of_limits r u
-entries_are_of_limits {old = old} (AreTypedEntries.assumptions r typed) (AreEntriesRefused.assumption before after {mark} {t} {mid = mid} r' makes fails) =
+entries_are_of_limits {old = old} {place = place} (AreTypedEntries.assumptions r typed) (AreEntriesRefused.assumption {name = name} before after {mark = mark} {t = t} {mid = mid} r' makes fails) =
     let same = same_core r r' in
-    entry_is_of_limits
-    (subst (λ a. HasTyping (type_task mid a)) same
-    (typed before after _ mid refl (subst (λ a. _) (sym same) makes))) fails
+    let made = subst (λ a. AssumesAll mark a place (with_types_of old t) before mid) (sym same) makes in
+    entry_is_of_limits (subst (λ a. HasTyping (type_task mid a)) same (typed before after name mid refl made)) fails
 entries_are_of_limits (AreTypedEntries.definition d h) (AreEntriesRefused.body_unread u) = body_is_of_limits d u
 entries_are_of_limits (AreTypedEntries.definition d h) (AreEntriesRefused.written_unread r u) = written_is_of_limits d u
 entries_are_of_limits (AreTypedEntries.definition d h) (AreEntriesRefused.definition d' fails) = entry_is_of_limits (same_definition d d' h) fails
@@ -125,3 +122,11 @@ typed_commands_meet_limits_alone limit old first p (Bindings bs) es cause h r = 
 typed_commands_meet_limits_alone limit old first p (Hnf m) es cause h r = form_is_of_limits h r.1
 typed_commands_meet_limits_alone limit old first p (Normal m) es cause h r = form_is_of_limits h r.1
 typed_commands_meet_limits_alone limit old first p (Show m) es cause h r = term_is_of_limits h r.1
+typed_commands_meet_limits_alone limit old first p _ es cause h r = absurd h
+
+-- so is a command, with what it answers
+pub refused_for_limits : (names : Names) (limit : ℕ) (old : Session) (o : WrittenCommand) (r : Result Answer Refusal)
+    → IfErr r (λ e. IsRefusal names limit old o e.place e.cause e.text) → IfErr r (λ e. IsTypedAct (context_of old) o.act → IsOfLimits e.cause)
+refused_for_limits names limit old o (Ok a) h = tt
+refused_for_limits names limit old o (Err e) (inl m) = λ typed. subst IsOfLimits (sym m.0) tt
+refused_for_limits names limit old o (Err e) (inr x) = λ typed. typed_commands_meet_limits_alone limit old o.place e.place o.act x.0 e.cause typed x.1

@@ -21,7 +21,7 @@ use Rattle.lego_context.proofs.LeafLemmas.{leaves-weaker}
 use Rattle.lego_undo.specs.Histories.{HasExtent, extent_of, front}
 use Rattle.lego_undo.specs.declared.state.State.{State}
 use Rattle.lego_undo.specs.declared.change.Extent.{Extent}
-use Rattle.lego_reading.specs.Universes.{with_universes, with_types_of}
+use Rattle.lego_reading.specs.Universes.{places_of, with_universes, with_types_of}
 use Rattle.lego_grammar.specs.Written.{Written}
 use Rattle.lego_session.specs.private.Binding.{Extends, IsOverContext}
 
@@ -65,10 +65,10 @@ universes-entries c (p ∷ ps) = universes-entries (with_universe c p) ps
 
 -- a written term adds universes alone
 pub types-entries : (c : Contents) (s : Written) → (with_types_of c s).entries ≡ c.entries
-types-entries c s = universes-entries c _
+types-entries c s = universes-entries c (places_of s)
 
 pub extends-types : (c new : Contents) (s : Written) → new ≡ with_types_of c s → Extends c new
-extends-types c new s is = subst (λ x. Extends c x) (sym is) (extends-universes c _)
+extends-types c new s is = subst (λ x. Extends c x) (sym is) (extends-universes c (places_of s))
 
 pub extends-same : (c new : Contents) → new ≡ c → Extends c new
 extends-same c new is = subst (λ x. Extends c x) (sym is) (extends-self c)

@@ -15,6 +15,7 @@ pub mod StepLemmas
 pub mod SessionLemmas
 pub mod DispatchLemmas
 pub mod TokenLemmas
+pub mod LowerLemmas
 pub mod KnownLemmas
 pub mod PlacesLemmas
 pub mod WrittenFormLemmas

@@ -18,6 +18,7 @@ use Rattle.lego_context.specs.Typed.{Types, IsSettledTyping, term_task}
 use Rattle.lego_context.specs.declared.context.typing.Settled.{Settled}
 use Rattle.lego_reduce.specs.Reduction.{Reduces}
 use Rattle.lego_reduce.specs.declared.fault.ReduceFault.{ReduceFault}
+use Rattle.lego_reduce.specs.declared.head_form.Reduced.{Reduced}
 use Rattle.lego_reduce.specs.declared.fault.ReduceFault.TheVariants as reduce
 use Rattle.lego_reading.specs.Calls.{IsCoreOf}
 use Rattle.lego_reading.specs.Universes.{with_types_of}
@@ -112,3 +113,10 @@ no_type_fails form limit c place m reason (inr h) = inr (HasNoForm.no_type h)
 pub types_extend : (c new : Contents) (m : Written) → (new ≡ c) ⊎ (new ≡ with_types_of c m) → Extends c new
 types_extend c new m (inl same) = extends-same c new same
 types_extend c new m (inr is) = extends-types c new m is
+
+-- the end of the sequence that was followed is that of the form's steps
+pub reaches : (form : Form) (next : Core → Option Core) (es : List Item) (core : Core) (limit : ℕ) (r : Result Reduced ReduceFault) (reduced : Reduced)
+    → Reduces next core limit r → r ≡ Ok reduced → next ≡ step_to form es → (steps : ℕ) × Ends (step_to form es) core steps reduced.term × (steps ≤ limit)
+reaches form next es core limit r reduced h is same =
+    let found : Reduces next core limit (Ok reduced) = subst (λ x. Reduces next core limit x) is h in
+    (reduced.steps, subst (λ step. Ends step core reduced.steps reduced.term) same found.0, found.1)

@@ -4,6 +4,7 @@ ghost use Rattle.lego_grammar.specs.Surface.{written_command};
 ghost use Rattle.lego_grammar.specs.WrittenForm.{IsWrittenForm};
 ghost use Rattle.lego_context.specs.Entries.{HasNoHole};
 ghost use Rattle.lego_undo.specs.Histories.{old_states, GoesWith};
+ghost use Rattle.lego_session.specs.Completeness.{IsTypedAct, IsOfLimits};
 ghost use Rattle.lego_session.specs.Names.{IsKnownSession, AreBoundHeld};
 ghost use Rattle.lego_session.specs.Reading.{is_built};
 ghost use Rattle.lego_session.specs.Sessions.{empty_session, context_of, entries_of};
@@ -96,6 +97,7 @@ impl Session {
         ensures cause { IfErr result (λ refusal. IsRefusal names.now limit self.old (written_command command.now) refusal.place refusal.cause refusal.text) }
         ensures err { OnErr result (self.new ≡ self.old) }
         ensures complete { IfErr result (λ refusal. IsFeasible self.old (written_command command.now).act → refusal.cause ≡ Memory) }
+        ensures typed { IfErr result (λ refusal. IsTypedAct (context_of self.old) (written_command command.now).act → IsOfLimits refusal.cause) }
         ensures known { IsKnownSession names.now self.old → AreBoundHeld names.now (bindings_of (written_command command.now).act) → IsKnownSession names.now self.new }
     {
         let asked = At {

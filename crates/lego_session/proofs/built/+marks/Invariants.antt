@@ -1,8 +1,7 @@
-use Rattle.std.proofs.Common.{◌≡◌, ◌&&◌, ℕ, ◌+◌, ◌-◌, ◌*◌, ◌<◌, ◌≤◌, length}
+use Rattle.std.proofs.Common.{◌≡◌, true, take}
 use Rattle.std.specs.List.{list_all}
-use Rattle.lego_grammar.specs.Surface.{written, written_command, written_kind}
-use Rattle.lego_session.specs.Reading.{is_plain, has_plain_marks, is_plain_kind, is_built}
+use Rattle.lego_session.proofs.BuiltLemmas.{is_plain_argument}
 use Rattle.lego_session.proofs.built.+marks.Given as goal
 
 abbrev pub invariant-are_plain-loop-mark : goal.invariant-are_plain-loop-mark
-invariant-are_plain-loop-mark l = ?
+invariant-are_plain-loop-mark l = list_all is_plain_argument (take l.mark-index l.arguments) ≡ true
