@@ -1,22 +1,42 @@
--- Entries as they are printed.
-use Rattle.std.proofs.Common.{◌≡◌, ℕ, ◌+◌, List, [], ◌∷◌, ◌++◌, map, take, drop, length, slice_get, Some, refl, sym, ap, ap₂, ◌∙◌}
-use Rattle.std.proofs.lemmas.List.{map-append, take_more}
-use Rattle.std.proofs.lemmas.Option.{slice_get_within, get_or_from_slice_get}
+-- Entries and written `Type`s as they are printed.
+use Rattle.std.proofs.Common.{◌≡◌, ℕ, ◌+◌, ◌<◌, ◌≤◌, true, List, [], ◌∷◌, ◌++◌, map, take, drop, length, get_or, refl, sym, ap, ap₂, ◌∙◌, subst}
+use Rattle.std.specs.Prelude.{All, is_some}
+use Rattle.std.proofs.lemmas.List.{map-append, take_more, take_all}
+use Rattle.std.proofs.lemmas.List.Elements.{All-get_or}
 use Rattle.lego_laws.specs.Entries.{Entry}
 use Rattle.lego_inference.specs.declared.entry.Entry.{Entry as Item}
+use Rattle.lego_inference.specs.declared.entry.Universe.{Universe}
 use Rattle.lego_inference.specs.Entries.{laws_entry}
 use Rattle.lego_print.specs.declared.item.Item.{Item as Printed}
+use Rattle.lego_print.specs.declared.universes.Universe.{Universe as Listed}
 use Rattle.lego_print.specs.Entries.{item_entry, item_entries}
+use Rattle.lego_session.specs.Texts.{listed}
 use Rattle.lego_session.specs.private.Items.{told, IsItemOf, AreItemsOf}
 
--- one item more of a list
-pub next_item : {X : Type 0} (xs : List X) (i : ℕ) (x : X) → slice_get xs i ≡ Some x → take (i + 1) xs ≡ take i xs ++ x ∷ []
-next_item xs i x at = take_more xs i x (slice_get_within xs i x at) ∙ ap (λ y. take i xs ++ y ∷ []) (get_or_from_slice_get xs i x x at)
+-- one element more of a list
+module _ {X : Type 0} (xs : List X) (i : ℕ) (x : X) (l : i < length xs) (is : x ≡ get_or xs i x) where
+  next_taken : take (i + 1) xs ≡ take i xs ++ x ∷ []
+  next_taken = take_more xs i x l ∙ ap (λ (y : X). take i xs ++ y ∷ []) (sym is)
 
--- one entry more
-pub items_more : (items : List Printed) (es : List Item) (i : ℕ) (x : Printed) (e : Item) → AreItemsOf items (take i es) → slice_get es i ≡ Some e → IsItemOf x e
-    → AreItemsOf (items ++ x ∷ []) (take (i + 1) es)
-items_more items es i x e so at is =
-    map-append item_entry items (x ∷ [])
-    ∙ ap₂ (λ (a : List Entry) (b : Entry). a ++ b ∷ []) so is
-    ∙ sym (ap (map (λ (d : Item). told (laws_entry d))) (next_item es i e at) ∙ map-append (λ (d : Item). told (laws_entry d)) (take i es) (e ∷ []))
+module _ (es : List Item) (i : ℕ) (e : Item) (l : i < length es) (is : e ≡ get_or es i e) where
+  -- the entry has a name, where all have
+  pub named_at : All (λ (d : Item). is_some d.name ≡ true) es → is_some e.name ≡ true
+  named_at all = subst (λ (d : Item). is_some d.name ≡ true) (sym is) (All-get_or (λ (d : Item). is_some d.name ≡ true) es i e l all)
+
+  -- one entry more
+  pub items_more : (items new : List Printed) (x : Printed) → AreItemsOf items (take i es) → IsItemOf x e → new ≡ items ++ x ∷ [] → AreItemsOf new (take (i + 1) es)
+  items_more items new x so tells made =
+      ap item_entries made
+      ∙ map-append item_entry items (x ∷ [])
+      ∙ ap₂ (λ (a : List Entry) (b : Entry). a ++ b ∷ []) so tells
+      ∙ sym (ap (map (λ (d : Item). told (laws_entry d))) (next_taken es i e l is) ∙ map-append (λ (d : Item). told (laws_entry d)) (take i es) (e ∷ []))
+
+-- all entries
+pub all_items : (items : List Printed) (es : List Item) (i : ℕ) → length es ≤ i → AreItemsOf items (take i es) → AreItemsOf items es
+all_items items es i past so = subst (AreItemsOf items) (take_all i es past) so
+
+-- one written `Type` more
+pub listed_more : (us : List Universe) (i : ℕ) (u : Universe) → i < length us → u ≡ get_or us i u → (made new : List Listed) (x : Listed)
+    → made ≡ map listed (take i us) → x ≡ listed u → new ≡ made ++ x ∷ [] → new ≡ map listed (take (i + 1) us)
+listed_more us i u l is made new x so tells pushed =
+    pushed ∙ ap₂ (λ (a : List Listed) (b : Listed). a ++ b ∷ []) so tells ∙ sym (ap (map listed) (next_taken us i u l is) ∙ map-append listed (take i us) (u ∷ []))
