@@ -32,7 +32,8 @@ fn listed(universe: &lego_inference::Universe) -> Universe
     ensures is { result ≡ listed universe.now }
     ensures small { HasSmallPlace result }
 {
-    let Place { line, column } = universe.place;
+    let line = universe.place.line;
+    let column = universe.place.column;
     Universe {
         variable: universe.variable,
         place: Place { line, column },
