@@ -1,7 +1,9 @@
 -- A printed development denotes the entries.
-use Rattle.std.proofs.Common.{◌≡◌, ℕ, suc, ◌+◌, ◌<◌, ◌≤◌, ◌^◌, Bool, ◌||◌, List, [], ◌∷◌, ◌++◌, map, length, get_or, Option, Some, IfSome, refl, sym, ap, ◌∙◌, subst, arith, append-nil}
+use Rattle.std.proofs.Common.{◌≡◌, ℕ, suc, ◌+◌, ◌<◌, ◌≤◌, ◌^◌, Bool, ◌||◌, List, [], ◌∷◌, ◌++◌, map, take, drop, length, get_or, Result, Ok, Err, IfOk, Option, Some, IfSome, refl, sym, ap, ◌∙◌, subst, arith, append-nil}
 use Rattle.std.specs.Prelude.{All, IsPermutation, codes, option_map, unwrap_or, false}
 use Rattle.std.specs.List.{list_any}
+use Rattle.std.specs.declared.alloc.Global.{Global}
+use Rattle.std.specs.declared.vec.Vec.{Vec}
 use Rattle.std.proofs.lemmas.List.Elements.{All-head, All-tail, All-nil, All-cons, All-map, All-weaker, All-from_get_or}
 use Rattle.lego_base.specs.Names.{AreDistinct}
 use Rattle.lego_term.specs.Levels.{Assignment, SatisfiesAll}
@@ -27,22 +29,37 @@ use Rattle.lego_print.specs.Entries.{item_entries, entry_text, entry_command}
 use Rattle.lego_print.specs.EntryLines.{entry_lines}
 use Rattle.lego_print.specs.Developments.{name_in, with_entry, entry_commands, occurs_in, universe_lines, IsDevelopment}
 use Rattle.lego_print.specs.Denoted.{IsSmall}
+use Rattle.lego_print.specs.ReadBack.{IsLeast as IsLeastShown}
 use Rattle.lego_print.specs.Showable.{IsSmallEntry, PrintedDevelopmentsDenote}
 use Rattle.lego_print.proofs.DevelopmentLemmas.{used_agree}
 use Rattle.lego_session.specs.Headline.{Headline}
 use Rattle.lego_session.specs.Names.{AreTrueNames, AreKnown}
-use Rattle.lego_session.specs.Texts.{first_place, listed, IsPrinted}
-use Rattle.lego_session.specs.private.Items.{told, HasSmallPlace}
+use Rattle.lego_session.specs.Texts.{first_place, scope_among, AreEntryLines, listed, IsPrinted}
+use Rattle.lego_session.specs.private.Items.{told, AreItemsOf, front_scope, HasSmallPlace}
 use Rattle.lego_session.proofs.ShowableLemmas.{can_be_shown}
 
 abbrev all_told : List Item → List Entry
 all_told es = map (λ (e : Item). told (laws_entry e)) es
 
 -- the texts of entries say what they tell
-pub lines_told : (levels : Shown) (scope : Scope) (es : List Item) → entry_lines levels scope (all_told es) ≡ entry_lines levels scope (laws_entries es)
+lines_told : (levels : Shown) (scope : Scope) (es : List Item) → entry_lines levels scope (all_told es) ≡ entry_lines levels scope (laws_entries es)
 lines_told levels scope [] = refl
 lines_told levels scope (e ∷ es) =
     ap (λ text. entry_text levels scope (laws_entry e) ++ codes "\n" ++ text) (lines_told levels (with_entry scope (laws_entry e)) es)
+
+-- lines of items are those of the entries that they tell
+pub lines_are : {E : Type 0} (names : Names) (v : Assignment) (es : List Item) (from : ℕ) (items : List Printed) (f : List Item × ℕ) (levels : Shown)
+    → AreItemsOf items (drop from es) → f ≡ (es, from) → IsLeastShown levels v → (r : Result (Vec ℕ Global) E)
+    → IfOk r (λ text. text.items ≡ entry_lines levels (front_scope names f) (item_entries items)) → IfOk r (λ text. AreEntryLines names v es from text.items)
+lines_are names v es from items f levels tell is least (Ok text) h = record {
+  levels = levels;
+  least = least;
+  is = h
+      ∙ ap (λ (xs : List Entry). entry_lines levels (front_scope names f) xs) tell
+      ∙ ap (λ (g : List Item × ℕ). entry_lines levels (front_scope names g) (all_told (drop from es))) is
+      ∙ lines_told levels (scope_among names es (take from es)) (drop from es);
+}
+lines_are names v es from items f levels tell is least (Err e) h = tt
 
 commands_told : (levels : Shown) (scope : Scope) (es : List Item) → entry_commands levels scope (all_told es) ≡ entry_commands levels scope (laws_entries es)
 commands_told levels scope [] = refl
@@ -87,7 +104,7 @@ module _ (names : Names) (c : Contents) (v : Assignment) (settled : IsSettled c 
     development = development_told c.entries (subst (λ (es : List Entry). IsDevelopment v names (name_in (laws_entries c.entries)) es us text) tell made)
 
     -- it is the development of the context
-    pub printed : IsPrinted names c text
+    printed : IsPrinted names c text
     printed = record {
       values = v;
       settled = settled;
@@ -95,7 +112,7 @@ module _ (names : Names) (c : Contents) (v : Assignment) (settled : IsSettled c 
     }
 
     -- and denotes its entries
-    pub headline : IsContext c → AreOverFronts c → HoldsByLuosRules c → HasNoHole c.entries → AreTrueNames names → AreKnown names c → AreDistinct names
+    headline : IsContext c → AreOverFronts c → HoldsByLuosRules c → HasNoHole c.entries → AreTrueNames names → AreKnown names c → AreDistinct names
         → All (IsSmallEntry v) (item_entries items) → All HasSmallPlace us → PrintedDevelopmentsDenote → Headline names c text
     headline context over pure none true_names known distinct small places law =
         let sizes = small_told v c.entries (subst (All (IsSmallEntry v)) tell small) in
@@ -112,3 +129,28 @@ module _ (names : Names) (c : Contents) (v : Assignment) (settled : IsSettled c 
             pure = pure v (subst (SatisfiesAll v) (sym (kept_is c.entries)) least.satisfies);
           };
         }
+
+-- so of the text that is made of these items and universes
+module _ (names : Names) (c : Contents) (v v' : Assignment) (settled : IsSettled c [] c.levels v) (same : v' ≡ v)
+    (items items' : List Printed) (tell : item_entries items ≡ all_told c.entries) (same_items : items' ≡ items)
+    (us us' : List Listed) (is : us ≡ map listed c.universes) (same_universes : us' ≡ us) (f : List Item × ℕ) (all : f ≡ (c.entries, length c.entries)) where
+  made_of : {text : List ℕ} → IsDevelopment v' names (name_in (laws_entries f.0)) (item_entries items') us' text
+      → IsDevelopment v names (name_in (laws_entries c.entries)) (item_entries items) us text
+  made_of {text} h =
+      subst (λ (w : Assignment). IsDevelopment w names (name_in (laws_entries c.entries)) (item_entries items) us text) same
+      (subst (λ (xs : List Printed). IsDevelopment v' names (name_in (laws_entries c.entries)) (item_entries xs) us text) same_items
+      (subst (λ (xs : List Listed). IsDevelopment v' names (name_in (laws_entries c.entries)) (item_entries items') xs text) same_universes
+      (subst (λ (g : List Item × ℕ). IsDevelopment v' names (name_in (laws_entries g.0)) (item_entries items') us' text) all h)))
+
+  pub all_printed : {E : Type 0} (r : Result (Vec ℕ Global) E) → IfOk r (λ text. IsDevelopment v' names (name_in (laws_entries f.0)) (item_entries items') us' text.items)
+      → IfOk r (λ text. IsPrinted names c text.items)
+  all_printed (Ok text) h = printed names c v settled items tell us is text.items (made_of h)
+  all_printed (Err e) h = tt
+
+  pub all_denote : {E : Type 0} → IsContext c → AreOverFronts c → HoldsByLuosRules c → HasNoHole c.entries → AreTrueNames names → AreKnown names c → AreDistinct names
+      → All (IsSmallEntry v) (item_entries items) → All HasSmallPlace us → PrintedDevelopmentsDenote
+      → (r : Result (Vec ℕ Global) E) → IfOk r (λ text. IsDevelopment v' names (name_in (laws_entries f.0)) (item_entries items') us' text.items)
+      → IfOk r (λ text. Headline names c text.items)
+  all_denote context over pure none true_names known distinct small places law (Ok text) h =
+      headline names c v settled items tell us is text.items (made_of h) context over pure none true_names known distinct small places law
+  all_denote context over pure none true_names known distinct small places law (Err e) h = tt

@@ -147,11 +147,11 @@ no_such_name (e ∷ es) n h = by_name e.name refl (no_such_name es n)
         rw is (rest others)
     by_name (Some k) is rest =
         let all : AllByRecursion (λ x. x ≡ n → ⊥) (k ∷ names_of es) = rw is at h in
-        by_test (nat_eq n k) refl
+        by_test all (nat_eq n k) refl
       where
-        by_test : (b : Bool) → nat_eq n k ≡ b → entry_named (laws_entries (e ∷ es)) n ≡ None
-        by_test true t = absurd (all.0 (grind (arith, nat_tests)))
-        by_test false t = rw (is, t) (rest all.1)
+        by_test : AllByRecursion (λ x. x ≡ n → ⊥) (k ∷ names_of es) → (b : Bool) → nat_eq n k ≡ b → entry_named (laws_entries (e ∷ es)) n ≡ None
+        by_test all true t = absurd (all.0 (grind (arith, nat_tests)))
+        by_test all false t = rw (is, t) (rest all.1)
 
 no_such_number : (es : List Item) (n : ℕ) → AllByRecursion (λ x. x ≡ n → ⊥) (numbers_of es) → entry_of (laws_entries es) n ≡ None
 no_such_number [] n h = refl

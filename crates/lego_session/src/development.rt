@@ -10,7 +10,7 @@ ghost use Rattle.lego_session.specs.private.Items.{HasSmallPlace};
 use crate::entries::Front;
 use crate::session::Session;
 use crate::text::items_from;
-use lego_base::Names;
+use lego_base::{Names, Place};
 use lego_context::Context;
 use lego_print::{Universe, development_text, items_are_small, printed_developments_denote};
 use std::alloc::{AllocError, Global};
@@ -32,10 +32,11 @@ fn listed(universe: &lego_inference::Universe) -> Universe
     ensures is { result ≡ listed universe.now }
     ensures small { HasSmallPlace result }
 {
-    let place = universe.place;
+    let line = universe.place.line;
+    let column = universe.place.column;
     Universe {
         variable: universe.variable,
-        place,
+        place: Place { line, column },
     }
 }
 
