@@ -2,7 +2,7 @@ use Rattle.std.proofs.Common.{◌≡◌, ℕ, ◌<◌, ◌≤◌, List, [], ◌�
 use Rattle.std.specs.Option.{option_copied}
 use Rattle.std.proofs.lemmas.Result.{err_from_is_err_and}
 use Rattle.lego_grammar.specs.Surface.{written}
-use Rattle.lego_session.proofs.EntriesLemmas.{body_fails, written_fails}
+use Rattle.lego_session.proofs.EntriesLemmas.{body_fails, whole_untyped, whole_typed, whole_unread}
 use Rattle.lego_session.proofs.ExtendLemmas.{extends-trans, extends-same, extends-types}
 use Rattle.lego_session.proofs.commands.entries.read_definition.Goals as goal
 
@@ -14,15 +14,3 @@ returns-in_err-body-clause-read c =
 
 pub returns-in_err-body-clause-extends : goal.returns-in_err-body-clause-extends
 returns-in_err-body-clause-extends c = extends-same c.args.context.now c.read_at.new.context c.in_err-body.ensures.1
-
-pub returns-in_err-read_at-in-Some-clause-read : goal.returns-in_err-read_at-in-Some-clause-read
-returns-in_err-read_at-in-Some-clause-read c = ?
-
-pub returns-in_err-read_at-in-Some-clause-extends : goal.returns-in_err-read_at-in-Some-clause-extends
-returns-in_err-read_at-in-Some-clause-extends c = ?
-
-pub returns-clause-read : goal.returns-clause-read
-returns-clause-read c = ?
-
-pub returns-clause-extends : goal.returns-clause-extends
-returns-clause-extends c = ?
