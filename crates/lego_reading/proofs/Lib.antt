@@ -12,3 +12,5 @@ pub mod CallLemmas
 pub mod ReadableLemmas
 pub mod NodeLemmas
 pub mod CoreLemmas
+pub mod CutLemmas
+pub mod OverLemmas
