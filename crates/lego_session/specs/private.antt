@@ -1,5 +1,6 @@
 pub mod Binding
 pub mod Gathered
+pub mod Items
 pub mod Parts
 pub mod Pending
 pub mod Progress
