@@ -22,3 +22,4 @@ pub mod DevelopmentLemmas
 pub mod MoreNames
 pub mod Showing
 pub mod ShowDevelopments
+pub mod LimitLemmas
