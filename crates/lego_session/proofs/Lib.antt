@@ -1,18 +1,26 @@
 pub mod HeldLemmas
 pub mod NamedLemmas
+<<<<<<< HEAD
 pub mod ShowableLemmas
 pub mod HeadlineLemmas
 pub mod ReadingLemmas
+=======
+>>>>>>> 37827f8998051d3d87ebb0581ee4ebdb968920f8
 pub mod TextLemmas
+pub mod ExtendLemmas
+pub mod ToldLemmas
+pub mod BuiltLemmas
 pub mod BindingLemmas
-pub mod BindAllLemmas
+pub mod EntriesLemmas
+pub mod BindingsLemmas
+pub mod RefusalLemmas
+pub mod ShowLemmas
 pub mod StepLemmas
 pub mod SessionLemmas
 pub mod DispatchLemmas
 pub mod TokenLemmas
 pub mod KnownLemmas
 pub mod DenotesNames
-pub mod ExplicitLemmas
 pub mod PlacesLemmas
 pub mod WrittenFormLemmas
 pub mod UnreadLemmas

@@ -114,11 +114,11 @@ fn bind(alloc: Global, state: &mut State, binding: &Binding, limit: u64) -> Resu
         return Err(in_use(binding, at));
     }
     let extent = state.extent();
-    let made = make(alloc, &mut state.context, binding, limit);
-    if made.is_err() {
+    if let Err(reason) = make(alloc, &mut state.context, binding, limit) {
         state.cut_to(extent);
+        return Err(reason);
     }
-    made
+    Ok(())
 }
 
 /// Makes the entries of a binding whose names are new; where one is refused, those before it stay.
