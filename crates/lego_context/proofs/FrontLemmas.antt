@@ -64,7 +64,7 @@ entries_at-append v es ds =
     ∙ reverse-append (map (entry_at v) (laws_entries es)) (map (entry_at v) (laws_entries ds))
 
 module _ (v : Assignment) (before after : List Item) (e : Item) (valid : AreValid (entries_at v (laws_entries (before ++ e ∷ after)))) where
-  list : List Constant
+  abbrev list : List Constant
   list = entries_at v (laws_entries before)
 
   whole : entries_at v (laws_entries (before ++ e ∷ after)) ≡ entries_at v (laws_entries after) ++ entry_at v (laws_entry e) ∷ list

@@ -1,5 +1,5 @@
 -- The entries of a context and local types over it name its entries alone.
-use Rattle.std.proofs.Common.{◌≡◌, ℕ, zero, suc, Bool, true, false, IsTrue, is_some, nat_eq, if◌then◌else◌, List, [], ◌∷◌, ◌++◌, take, length, slice_get, Option, Some, None, IfSome, refl, sym, ap, ◌∙◌, subst, append_assoc}
+use Rattle.std.proofs.Common.{◌≡◌, ℕ, zero, suc, ◌≤◌, Bool, true, false, IsTrue, is_some, IsSome, nat_eq, if◌then◌else◌, List, [], ◌∷◌, ◌++◌, take, length, slice_get, Option, Some, None, IfSome, refl, sym, ap, ◌∙◌, subst, append_assoc}
 use Rattle.std.specs.List.{AllByRecursion}
 use Rattle.std.proofs.lemmas.List.{map-append}
 use Rattle.lego_term.specs.Trees.{Core}
@@ -39,7 +39,7 @@ module _ (c : Contents) (x : IsContext c) where
   names_more : (before after : List Item) → c.entries ≡ before ++ after → (levels : ℕ) (m : Core) → IsTermOver before [] levels m → NamesEntries (laws_entries c.entries) m
   names_more before after is levels m h =
       subst (λ (es : List Entry). NamesEntries es m) (sym (ap laws_entries is ∙ map-append laws_entry before after))
-      (leaves-weaker _ _ (λ l. l.plus ≤ 1000000) (λ k found. entry_among (laws_entries before) (laws_entries after) k found) m h.names)
+      (leaves-weaker (λ k. IsSome (entry_of (laws_entries before) k)) (λ k. IsSome (entry_of (laws_entries before ++ laws_entries after) k)) (λ l. l.plus ≤ 1000000) (λ k found. entry_among (laws_entries before) (laws_entries after) k found) m h.names)
 
   body_names : (before after : List Item) → c.entries ≡ before ++ after → (levels : ℕ) (o : Option Core) → IfSome o (λ m. IsTermOver before [] levels m) → IfSome o (NamesEntries (laws_entries c.entries))
   body_names before after is levels None h = tt

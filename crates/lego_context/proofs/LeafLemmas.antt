@@ -1,9 +1,9 @@
 -- The constants and levels of terms.
-use Rattle.std.proofs.Common.{◌≡◌, ℕ, ◌≤◌, Bool, IsTrue, List, Option, Some}
+use Rattle.std.proofs.Common.{◌≡◌, ℕ, ◌≤◌, Bool, IsTrue, IsSome, List, Option, Some}
 use Rattle.lego_term.specs.declared.level.Level.{Level}
 use Rattle.lego_term.specs.Levels.{Assignment}
 use Rattle.lego_term.specs.Trees.{Core, Term, Var, Const, Prop, Univ, Pi, Lam, App, Sigma, Pair, Fst, Snd, Let, at}
-use Rattle.lego_laws.specs.Entries.{Entry}
+use Rattle.lego_laws.specs.Entries.{Entry, entry_of}
 use Rattle.lego_laws.specs.Parallel.{TermBodies}
 use Rattle.lego_laws.specs.Derivations.{Derives, d_prop, d_univ, d_var, d_const, d_pi_prop, d_pi, d_lam, d_app, d_sigma, d_pair, d_fst, d_snd, d_let, d_cum}
 use Rattle.lego_laws.specs.Strengthening.{MentionsOnly}
@@ -29,7 +29,7 @@ module _ (C D : ℕ → Type 0) (L : Level → Type 0) (h : (k : ℕ) → C k �
 
 -- the levels of a term over entries are small
 pub small_levels : (es : List Entry) (m : Core) → NamesEntries es m → HasSmallLevels m
-small_levels es m s = leaves-weaker _ (λ k. Unit {0}) (λ l. l.plus ≤ 1000000) (λ k _. tt) m s
+small_levels es m s = leaves-weaker (λ k. IsSome (entry_of es k)) (λ k. Unit {0}) (λ l. l.plus ≤ 1000000) (λ k _. tt) m s
 
 module _ (p : ℕ → Bool) where
   -- the constants of a typed term have types
