@@ -28,21 +28,21 @@ has_typed es k a h = by_case (constant_of es k) h
     by_case (Some e) h = refl
 
 -- a term with a type mentions constants of the list alone
-mentions : {es : List Constant} {g : List Term} {m a : Term} → Derives (types_of es) (bodies_of es) g m a → MentionsOnly (has es) m
-mentions d_prop = tt
-mentions d_univ = tt
-mentions (d_var l) = tt
-mentions {es} (d_const {k = k} {a = a} e) = has_typed es k a e
-mentions (d_pi_prop d e) = (mentions d, mentions e)
-mentions (d_pi d e) = (mentions d, mentions e)
-mentions (d_lam d e) = (mentions d, mentions e)
-mentions (d_app d e) = (mentions d, mentions e)
-mentions (d_sigma d e) = (mentions d, mentions e)
-mentions (d_pair d e p q) = (mentions d, mentions e, mentions p, mentions q)
-mentions (d_fst d) = mentions d
-mentions (d_snd d) = mentions d
-mentions {es} (d_let {m = m} {n = n} d e) = (mentions d, m-body (has es) n m (mentions e))
-mentions (d_cum d e l) = mentions d
+mentions : (es : List Constant) {g : List Term} {m a : Term} → Derives (types_of es) (bodies_of es) g m a → MentionsOnly (has es) m
+mentions es d_prop = tt
+mentions es d_univ = tt
+mentions es (d_var l) = tt
+mentions es (d_const {k = k} {a = a} e) = has_typed es k a e
+mentions es (d_pi_prop d e) = (mentions es d, mentions es e)
+mentions es (d_pi d e) = (mentions es d, mentions es e)
+mentions es (d_lam d e) = (mentions es d, mentions es e)
+mentions es (d_app d e) = (mentions es d, mentions es e)
+mentions es (d_sigma d e) = (mentions es d, mentions es e)
+mentions es (d_pair d e p q) = (mentions es d, mentions es e, mentions es p, mentions es q)
+mentions es (d_fst d) = mentions es d
+mentions es (d_snd d) = mentions es d
+mentions es (d_let {m = m} {n = n} d e) = (mentions es d, m-body (has es) n m (mentions es e))
+mentions es (d_cum d e l) = mentions es d
 
 -- and so does it without values of levels
 unvalued : (v : Assignment) (p q : ℕ → Bool) → ((k : ℕ) → p k ≡ q k) → (t : Core) → MentionsOnly p (at v t) → MentionsOnly q t
@@ -99,16 +99,16 @@ abbrev AreClosedAt : List Constant → Type 0
 AreClosedAt [] = Unit {0}
 AreClosedAt (x ∷ es) = (constant_of es x.number ≡ None) × IsClosedAt es x.ty × IfSome x.body (IsClosedAt es) × AreClosedAt es
 
-closed_at : {es : List Constant} {m a : Term} → Derives (types_of es) (bodies_of es) [] m a → IsClosedAt es m
-closed_at d = let l = loose_within d in (omega arith, mentions d)
+closed_at : (es : List Constant) {m a : Term} → Derives (types_of es) (bodies_of es) [] m a → IsClosedAt es m
+closed_at es d = let l = loose_within d in (omega arith, mentions es d)
 
 all_closed : (es : List Constant) → ValidTypes es → BodiesFit es → AreClosedAt es
 all_closed [] t b = tt
-all_closed (x ∷ es) t b = (t.0, closed_at t.1.1, of_body x.body b.0, all_closed es t.2 b.1)
+all_closed (x ∷ es) t b = (t.0, closed_at es t.1.1, of_body x.body b.0, all_closed es t.2 b.1)
   where
     of_body : (o : Option Term) → IfSome o (λ m. Has es [] m x.ty) → IfSome o (IsClosedAt es)
     of_body None h = tt
-    of_body (Some m) h = closed_at (derived h).0
+    of_body (Some m) h = closed_at es (derived h).0
 
 closed_back : (xs ys : List Constant) → AreClosedAt (xs ++ ys) → AreClosedAt ys
 closed_back [] ys h = h
