@@ -15,7 +15,6 @@ use Rattle.lego_laws.specs.Entries.{Entry, core_bodies}
 use Rattle.lego_laws.proofs.lemmas.principal.Scoped.{scoped_head}
 use Rattle.lego_grammar.specs.Scopes.{Scope, put_values}
 use Rattle.lego_grammar.specs.Reading.{Annotates, is_sigma}
-use Rattle.lego_inference.specs.Entries.{AreClosedEntries}
 use Rattle.lego_reading.specs.declared.annotation.SigmaType.{SigmaType}
 use Rattle.lego_reading.specs.declared.fault.ReadFault.{ReadFault}
 use Rattle.lego_reading.specs.declared.fault.ReadFault.TheVariants as fault
@@ -24,23 +23,19 @@ use Rattle.lego_reading.specs.private.Faults.{of_term}
 use Rattle.lego_reading.specs.private.Values.{PutsValues}
 use Rattle.lego_reading.specs.private.Annotations.{IsNotAnnotated, IsAnnotated, EndsAt}
 
--- the bodies that a context keeps are those of its entries
-pub closed_map : (b : BodyMap) (es : List Entry) → bodies_in b ≡ core_bodies es → AreClosedEntries es → AreClosed b
-closed_map b es are closed = λ k t e. closed.bodies k t (sym (ap (λ (f : ℕ → Option Core). f k) are) ∙ e)
-
 module _ (b : BodyMap) (es : List Entry) (are : bodies_in b ≡ core_bodies es) (limit : ℕ) (scope : Scope) (c t : Core) where
   reduces_in : (r : Result Reduced ReduceFault) → Reduces (head_step (bodies_in b)) t limit r → Reduces (head_step (core_bodies es)) t limit r
   reduces_in r h = subst (λ (f : ℕ → Option Core). Reduces (head_step f) t limit r) are h
 
-  pub ends : (r : Reduced) → AreClosedEntries es → Reduces (head_step (bodies_in b)) t limit (Ok r) → EndsAt es limit scope c t (Ok r.term)
+  pub ends : (r : Reduced) → AreClosed b → Reduces (head_step (bodies_in b)) t limit (Ok r) → EndsAt es limit scope c t (Ok r.term)
   ends r closed h =
       let form : HeadForm (core_bodies es) t r.term = (r.steps, (reduces_in (Ok r) h).0) in
-      (form, scoped_head (core_bodies es) closed.bodies form)
+      (form, scoped_head (core_bodies es) (λ k u e. closed k u (ap (λ (f : ℕ → Option Core). f k) are ∙ e)) form)
 
-  pub ends_over : (seen : Seen) (f : ReduceFault) → f ≡ reduce.Budget → seen ≡ seen_in scope c → Reduces (head_step (bodies_in b)) t limit (Err f)
+  pub ends_over : (seen : Seen) (f : ReduceFault) → f ≡ reduce.Budget → seen ≡ seen_in scope t → Reduces (head_step (bodies_in b)) t limit (Err f)
       → EndsAt es limit scope c t (Err (fault.Budget seen))
   ends_over seen f e is h = λ same none.
-      subst (λ z. IsNotAnnotated es limit scope c (fault.Budget z)) (sym is)
+      subst (λ z. IsNotAnnotated es limit scope c (fault.Budget z)) (sym (is ∙ ap (seen_in scope) same))
       (IsNotAnnotated.no_head_form none (HasNoHeadForm.budget (subst (λ z. Reduces (head_step (core_bodies es)) z limit (Err reduce.Budget)) same
       (subst (λ z. Reduces (head_step (core_bodies es)) t limit (Err z)) e (reduces_in (Err f) h)))))
 
