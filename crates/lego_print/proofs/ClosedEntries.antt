@@ -1,14 +1,14 @@
 -- The entries of a valid list are closed over those before them.
-use Rattle.std.proofs.Common.{◌≡◌, ℕ, zero, suc, ◌≤◌, Bool, true, false, ◌||◌, nat_eq, if◌then◌else◌, cond, List, [], ◌∷◌, ◌++◌, map, reverse, length, Option, Some, None, option_map, unwrap_or, refl, sym, ap, ◌∙◌, subst, append_assoc, arith}
-use Rattle.std.specs.Prelude.{IfSome, IsTrue}
+use Rattle.std.proofs.Common.{◌≡◌, ℕ, Bool, true, false, ◌||◌, nat_eq, if◌then◌else◌, List, [], ◌∷◌, ◌++◌, map, reverse, Option, Some, None, option_map, unwrap_or, refl, sym, ap, ◌∙◌, subst, append_assoc, arith}
+use Rattle.std.specs.Prelude.{IfSome}
 use Rattle.std.proofs.lemmas.List.{reverse-append}
 use Rattle.lego_term.specs.Levels.{Assignment, level_value}
-use Rattle.lego_term.specs.Trees.{Core, Term, Tree, Var, Const, Prop, Univ, Pi, Lam, App, Sigma, Pair, Fst, Snd, Let, at, loose, put, instantiate}
+use Rattle.lego_term.specs.Trees.{Core, Term, Var, Const, Prop, Univ, Pi, Lam, App, Sigma, Pair, Fst, Snd, Let, at, loose}
 use Rattle.lego_laws.specs.Entries.{Entry, Constant, entry_at, entries_at, entry_of, constant_of, bodies_of}
 use Rattle.lego_laws.specs.Derivations.{types_of, Derives, d_prop, d_univ, d_var, d_const, d_pi_prop, d_pi, d_lam, d_app, d_sigma, d_pair, d_fst, d_snd, d_let, d_cum}
 use Rattle.lego_laws.specs.Judgement.{Has}
 use Rattle.lego_laws.specs.Strengthening.{MentionsOnly}
-use Rattle.lego_laws.specs.Valid.{AreValid, BodiesFit}
+use Rattle.lego_laws.specs.Valid.{BodiesFit}
 use Rattle.lego_laws.proofs.lemmas.constants.KnownConstants.{m-body}
 use Rattle.lego_laws.proofs.lemmas.reduction.Valued.{loose-map}
 use Rattle.lego_laws.proofs.lemmas.typing.Entries.{loose_within}

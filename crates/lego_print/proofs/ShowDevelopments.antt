@@ -1,28 +1,27 @@
 -- The development of entries that can be shown can be read back, under a numbering that holds its printed names.
-use Rattle.std.proofs.Common.{◌≡◌, ℕ, zero, suc, ◌+◌, ◌<◌, ◌≤◌, ◌^◌, Bool, true, false, ◌||◌, nat_eq, if◌then◌else◌, cond, List, [], ◌∷◌, ◌++◌, length, All, Option, Some, None, option_map, unwrap_or, refl, sym, ap, ◌∙◌, subst, append_assoc, length-append, arith}
+use Rattle.std.proofs.Common.{◌≡◌, ℕ, ◌+◌, ◌<◌, ◌≤◌, ◌^◌, Bool, true, false, ◌||◌, nat_eq, if◌then◌else◌, cond, List, [], ◌∷◌, ◌++◌, length, Option, Some, None, option_map, unwrap_or, refl, sym, ap, ◌∙◌, subst, append_assoc, length-append, arith}
 use Rattle.std.specs.Prelude.{IfSome, slice_get, IsTrue, option_and_then}
-use Rattle.std.specs.List.{AllByRecursion, list_any}
+use Rattle.std.specs.List.{list_any}
 use Rattle.std.proofs.lemmas.Bool.Decides.{nat_tests}
 use Rattle.std.proofs.lemmas.Cmp.{nat_list_eq_equiv}
 use Rattle.std.proofs.lemmas.List.Elements.{recursion_from_All}
-use Rattle.std.proofs.lemmas.Option.{same_Some}
-use Rattle.lego_base.specs.Names.{same_text, AreDistinct}
+use Rattle.lego_base.specs.Names.{same_text}
 use Rattle.lego_base.proofs.NamesLemmas.{true_is_false}
 use Rattle.lego_term.specs.Levels.{Assignment, level_value}
-use Rattle.lego_term.specs.Trees.{Core, levels_of, loose, depth, uses_variable}
+use Rattle.lego_term.specs.Trees.{Core, levels_of, uses_variable}
 use Rattle.lego_laws.specs.Entries.{Entry, entry_of}
 use Rattle.lego_lexer.specs.Tokens.{Name, token_of}
 use Rattle.lego_grammar.specs.Grammar.{Names}
 use Rattle.lego_grammar.specs.Scopes.{entry_named, is_named}
 use Rattle.lego_print.specs.Names.{Scope, is_text_of, name_text}
 use Rattle.lego_print.specs.Texts.{constant_text, outer_scope}
-use Rattle.lego_print.specs.ReadBack.{IsReadable, IsEntryText}
+use Rattle.lego_print.specs.ReadBack.{IsReadable}
 use Rattle.lego_print.specs.Developments.{name_in, with_name, with_entry}
-use Rattle.lego_print.specs.Denoted.{IsReadableEntry, AreReadable}
-use Rattle.lego_print.specs.Showable.{IsName, IsSmallTerm, IsSmallEntry, has_entry, IsShowableTerm, IsShowableEntry, AreShowable, IsReadByMore, PrintedDevelopmentsDenote}
-use Rattle.lego_print.proofs.MoreNames.{IsHeld, AreHeld, get_front, AreAdded, added, held_front, held_back}
+use Rattle.lego_print.specs.Denoted.{AreReadable}
+use Rattle.lego_print.specs.Showable.{IsName, IsSmallTerm, has_entry, IsShowableTerm, IsShowableEntry, AreShowable, PrintedDevelopmentsDenote}
+use Rattle.lego_print.proofs.MoreNames.{AreHeld, get_front, added, held_front, held_back}
 use Rattle.lego_print.proofs.ReadDevelopments.{developments_read}
-use Rattle.lego_print.proofs.Showing.{binder_texts, within, UsesNamed, AreKnown, shown_readable}
+use Rattle.lego_print.proofs.Showing.{binder_texts, within, AreKnown, shown_readable}
 use Rattle.lego_print.proofs.Unused.{loose_unused}
 
 -- the printed names of the binders of a body, and of entries

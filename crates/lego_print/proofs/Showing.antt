@@ -1,6 +1,6 @@
 -- Terms that can be shown can be read back, where their printed names are held.
-use Rattle.std.proofs.Common.{◌≡◌, ℕ, zero, suc, max, ◌+◌, ◌<◌, ◌≤◌, ◌^◌, Bool, true, false, not, ◌||◌, ◌&&◌, nat_eq, List, [], ◌∷◌, ◌++◌, length, All, Option, Some, None, option_map, unwrap_or, refl, sym, ap, ◌∙◌, subst, arith}
-use Rattle.std.specs.Prelude.{IfSome, MatchBool, codes, slice_get, IsTrue}
+use Rattle.std.proofs.Common.{◌≡◌, ℕ, zero, suc, ◌+◌, ◌<◌, ◌^◌, Bool, true, false, not, ◌||◌, nat_eq, List, [], ◌∷◌, ◌++◌, length, Option, Some, None, unwrap_or, refl, sym, ap, subst, arith}
+use Rattle.std.specs.Prelude.{IfSome, MatchBool, slice_get, IsTrue}
 use Rattle.std.specs.List.{AllByRecursion}
 use Rattle.std.proofs.lemmas.Bool.Decides.{nat_tests}
 use Rattle.lego_term.specs.Levels.{Assignment, level_value}
@@ -12,10 +12,10 @@ use Rattle.lego_laws.specs.Strengthening.{MentionsOnly}
 use Rattle.lego_lexer.specs.Tokens.{Name, token_of}
 use Rattle.lego_lexer.proofs.TokenLemmas.{and_true}
 use Rattle.lego_grammar.specs.Grammar.{Names}
-use Rattle.lego_print.specs.Names.{Scope, name_text, wished_name, printed_name, names_in_use}
+use Rattle.lego_print.specs.Names.{Scope, name_text, wished_name}
 use Rattle.lego_print.specs.Texts.{binder_name, bound, unbound, is_arrow, is_unused, is_plain}
 use Rattle.lego_print.specs.ReadBack.{IsReadable, IsEntryText, IsBinderText}
-use Rattle.lego_print.specs.Showable.{EachBinder, IsName, IsNamed, AreBindersShowable, has_entry}
+use Rattle.lego_print.specs.Showable.{IsName, IsNamed, AreBindersShowable, has_entry}
 use Rattle.lego_print.proofs.MoreNames.{IsHeld, AreHeld, held_front, held_back}
 use Rattle.lego_print.proofs.PrintedNames.{printed_is_name}
 
