@@ -1,4 +1,7 @@
+pub mod HeldLemmas
 pub mod NamedLemmas
+pub mod ShowableLemmas
+pub mod HeadlineLemmas
 pub mod TextLemmas
 pub mod ExtendLemmas
 pub mod ToldLemmas
@@ -13,7 +16,6 @@ pub mod SessionLemmas
 pub mod DispatchLemmas
 pub mod TokenLemmas
 pub mod KnownLemmas
-pub mod DenotesNames
 pub mod PlacesLemmas
 pub mod WrittenFormLemmas
 pub mod UnreadLemmas
@@ -26,6 +28,7 @@ pub mod RunLemmas
 pub mod ClosingLemmas
 pub mod ProgressLemmas
 pub mod OutcomeLemmas
-pub mod OneMoveLemmas
+pub mod OneTextLemmas
 pub mod OneStepLemmas
-pub mod OneAnswerLemmas
+pub mod OneReadingLemmas
+pub mod OneRunLemmas

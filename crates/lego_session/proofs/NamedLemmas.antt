@@ -13,6 +13,7 @@ use Rattle.lego_inference.specs.Entries.{laws_entry, laws_entries, numbers_of}
 use Rattle.lego_context.specs.Entries.{is_named, position_of, place_of_number, names_of, FitsKind, IsEntry, IsNoHole, HasNoHole}
 use Rattle.lego_context.proofs.NameLemmas.{position-cons}
 use Rattle.lego_print.specs.Developments.{name_in}
+use Rattle.lego_session.specs.private.Items.{name_at}
 
 by_kind : (k : EntryKind) (name : Option ℕ) (body : Option Core) (hypotheses : ℕ) → FitsKind k name body hypotheses → IsNoHole k → (n : ℕ) × (name ≡ Some n)
 by_kind Assumed (Some n) body hypotheses fits none = (n, refl)
@@ -90,10 +91,6 @@ named_within name n at es found = sym (named_before name n es ∙ ap (stands_bef
 
 pub named_nowhere : (name n : ℕ) (es : List Item) → position_of es name ≡ None → false ≡ list_any (nat_eq name) (names_of (take n es))
 named_nowhere name n es none = sym (named_before name n es ∙ ap (stands_before n) none)
-
--- the name of the entry at a place
-abbrev name_at : List Item → ℕ → Option ℕ
-name_at es at = option_and_then (λ (e : Item). e.name) (slice_get es at)
 
 -- the name of a number is that of the entry at its place
 pub called_at : (k : ℕ) (es : List Item) → name_in (laws_entries es) k ≡ option_and_then (name_at es) (place_of_number es k)

@@ -1,10 +1,11 @@
 //! The development of a session, and what is promised of it.
-ghost use Rattle.std.specs.Prelude.{◌≡◌, ◌^◌, ◌<◌, map, All, IfOk};
+ghost use Rattle.std.specs.Prelude.{◌≡◌, map, All, IfOk};
 ghost use Rattle.lego_context.specs.Entries.{HasNoHole};
 ghost use Rattle.lego_session.specs.Headline.{Headline};
-ghost use Rattle.lego_session.specs.Names.{AreKnown, IsKnownSession};
+ghost use Rattle.lego_session.specs.Names.{AreTrueNames, AreKnown, IsKnownSession};
 ghost use Rattle.lego_session.specs.Sessions.{context_of};
 ghost use Rattle.lego_session.specs.Texts.{IsPrinted, listed};
+ghost use Rattle.lego_session.specs.private.Items.{HasSmallPlace};
 
 use crate::entries::Front;
 use crate::session::Session;
@@ -26,16 +27,26 @@ impl Session {
     }
 }
 
+/// A written `Type`, as a development lists it.
+fn listed(universe: &lego_inference::Universe) -> Universe
+    ensures is { result ≡ listed universe.now }
+    ensures small { HasSmallPlace result }
+{
+    let place = universe.place;
+    Universe {
+        variable: universe.variable,
+        place,
+    }
+}
+
 /// The written `Type`s of a context, as a development lists them.
-fn universes_of(alloc: Global, context: &Context) -> Result<Vec<Universe>, AllocError>
-    ensures { IfOk result (λ us. us.items ≡ map listed context.now.universes) }
+fn all_listed(alloc: Global, context: &Context) -> Result<Vec<Universe>, AllocError>
+    ensures are { IfOk result (λ us. us.items ≡ map listed context.now.universes) }
+    ensures small { IfOk result (λ us. All HasSmallPlace us.items) }
 {
     let mut universes = Vec::new(alloc);
     for universe in context.universes() {
-        universes.push(Universe {
-            variable: universe.variable,
-            place: universe.place,
-        })?;
+        universes.push(listed(universe))?;
     }
     Ok(universes)
 }
@@ -47,6 +58,7 @@ fn development(
     context: &Context,
 ) -> Result<Vec<u8>, AllocError>
     requires no_hole { HasNoHole context.now.entries }
+    requires true_names { AreTrueNames names.now }
     requires known { AreKnown names.now context.now }
     ensures text { IfOk result (λ text. IsPrinted names.now context.now text.items) }
     ensures headline { IfOk result (λ text. Headline names.now context.now text.items) }
@@ -56,7 +68,7 @@ fn development(
     let _count = names.len();
     let values = context.least()?;
     let items = items_from(alloc, context, 0)?;
-    let universes = universes_of(alloc, context)?;
+    let universes = all_listed(alloc, context)?;
     // So the text denotes the entries.
     items_are_small(&items, &values);
     printed_developments_denote();

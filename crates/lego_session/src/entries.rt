@@ -1,6 +1,7 @@
 //! The entries of a context, as a printer asks for them.
 ghost use Rattle.std.specs.Prelude.{◌≡◌, ◌≤◌, length};
 ghost use Rattle.lego_context.specs.Entries.{HasNoHole};
+ghost use Rattle.lego_session.specs.private.Items.{name_at};
 
 use lego_context::Context;
 use lego_print::Entries;
@@ -72,8 +73,19 @@ impl<'a> Entries for Front<'a> {
     }
 
     fn name_of(&self, number: u32) -> Option<u32> {
-        let at = self.context.find(number)?;
-        let entry = self.context.entry(at)?;
-        entry.name
+        match self.context.find(number) {
+            Some(at) => name_at(self.context, at),
+            None => None,
+        }
+    }
+}
+
+/// The name of the entry at a place.
+fn name_at(context: &Context, at: usize) -> Option<u32>
+    ensures { result ≡ name_at context.now.entries at }
+{
+    match context.entry(at) {
+        Some(entry) => entry.name,
+        None => None,
     }
 }

@@ -1,5 +1,5 @@
 //! Laws of runs, each the contract of a function that does nothing.
-ghost use Rattle.lego_session.specs.Laws.{StepsHaveOneReply, RunsHaveOneCut};
+ghost use Rattle.lego_session.specs.Laws.{StepsHaveOneReply, RunsHaveOneCut, CommandsAreReadInOneWay};
 
 /// A command that reads no term has one reply and leaves one session, want of memory aside.
 pub fn steps_have_one_reply()
@@ -10,4 +10,10 @@ pub fn steps_have_one_reply()
 /// stands behind the last of them.
 pub fn runs_have_one_cut()
     ensures { RunsHaveOneCut }
+{}
+
+/// The bytes of a command and the names held before it determine which command it is, or where and
+/// why it is none, and the names held behind it.
+pub fn commands_are_read_in_one_way()
+    ensures { CommandsAreReadInOneWay }
 {}

@@ -21,7 +21,7 @@ mod status;
 mod text;
 
 pub use built::is_built;
-pub use laws::{runs_have_one_cut, steps_have_one_reply};
+pub use laws::{commands_are_read_in_one_way, runs_have_one_cut, steps_have_one_reply};
 pub use refusal::{Cause, Refusal};
 pub use running::run;
 pub use session::{Answer, Session};

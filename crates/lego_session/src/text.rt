@@ -1,5 +1,5 @@
 //! The texts of entries and terms.
-ghost use Rattle.std.specs.Prelude.{◌≡◌, ◌≤◌, ◌++◌, [], true, decimal, drop, length, is_some, OnOk, IfOk};
+ghost use Rattle.std.specs.Prelude.{◌≡◌, ◌≤◌, ◌++◌, [], true, decimal, drop, length, is_some, All, OnOk, IfOk};
 ghost use Rattle.lego_context.specs.Entries.{HasNoHole};
 ghost use Rattle.lego_print.specs.Names.{name_text};
 ghost use Rattle.lego_session.specs.Texts.{AreEntryLines, IsTermLine, IsTypingLine};
@@ -43,9 +43,17 @@ pub(crate) fn items_from(
     requires no_hole { HasNoHole context.now.entries }
     ensures { IfOk result (λ items. AreItemsOf items.items (drop from context.now.entries)) }
 {
-    let mut items = Vec::new(alloc);
     let _entries = context.len();
-    for entry in &context.entries()[from..] {
+    items_of(alloc, &context.entries()[from..])
+}
+
+/// Entries that have names, as they are printed.
+fn items_of(alloc: Global, entries: &[Entry]) -> Result<Vec<Item<'_>>, AllocError>
+    requires { All (λ e. is_some e.name ≡ true) entries.now }
+    ensures { IfOk result (λ items. AreItemsOf items.items entries.now) }
+{
+    let mut items = Vec::new(alloc);
+    for entry in entries {
         items.push(item_of(entry))?;
     }
     Ok(items)

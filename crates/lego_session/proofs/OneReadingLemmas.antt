@@ -1,4 +1,4 @@
--- A command's bytes have one answer, and leave one numbering and one session.
+-- A command's bytes are read in one way.
 use Rattle.std.proofs.Common.{◌≡◌, ℕ, suc, ◌<◌, ◌≤◌, Bool, true, false, List, [], ◌∷◌, ◌++◌, map, length, take, drop, Some, refl, sym, ap, ◌∙◌, subst, arith}
 use Rattle.std.specs.Prelude.{slice_get, All}
 use Rattle.std.proofs.lemmas.Bool.{false≢true}
@@ -15,18 +15,18 @@ use Rattle.lego_grammar.specs.Refusals.{GoesOn, IsUnexpected, IsTooDeep, NestedS
 use Rattle.lego_grammar.specs.Written.{WrittenCommand}
 use Rattle.lego_grammar.proofs.Refusals.{one_unexpected, one_too_deep}
 use Rattle.lego_grammar.proofs.Unique.{one_reading, one_nesting}
-use Rattle.lego_kernel.specs.Contexts.{HaveDistinctNames}
 use Rattle.lego_parser.specs.Numbering.{names_behind, AreTooMany, IsFront, max_names}
-use Rattle.lego_session.specs.Answers.{grammar_tokens, HasTokens, IsNumbering, IsCommand, IsNumberedCommand, lex_place, lex_cause, token_text, IsUnread, scope_of, Answers}
+use Rattle.lego_session.specs.Answers.{grammar_tokens, HasTokens, IsNumbering, IsCommand, IsNumberedCommand, lex_place, lex_cause, token_text, IsUnread}
 use Rattle.lego_session.specs.Reading.{is_built}
-use Rattle.lego_session.specs.Refusals.{refusal_text}
-use Rattle.lego_session.specs.Sessions.{Session, HasNoLevels, entries_of}
-use Rattle.lego_session.specs.Step.{Reply, Step}
+use Rattle.lego_session.specs.Laws.{CommandsAreReadInOneWay}
 use Rattle.lego_session.specs.declared.refusal.Cause.{Cause}
 use Rattle.lego_session.specs.declared.refusal.Cause.TheVariants.{Unexpected, TooDeep, LongCommand, NamesFull}
-use Rattle.lego_session.proofs.OneBindingLemmas.{IsSame}
-use Rattle.lego_session.proofs.OneMoveLemmas.{one_split}
-use Rattle.lego_session.proofs.OneStepLemmas.{one_step}
+use Rattle.lego_session.proofs.OneStepLemmas.{one_split}
+
+-- the same place and cause
+record IsSame (p q : Place) (c d : Cause) : Type 0 where
+  pub place : p ≡ q
+  pub cause : c ≡ d
 
 -- no nesting of the tokens is above 500
 abbrev IsShallow : List Nested → Type 0
@@ -187,24 +187,12 @@ module _ {held names : Names} {c : CommandText} {o : WrittenCommand} (n : IsNumb
       faults_exclude_tokens c.place c.bytes p.command.tokens fault p.command.lexed.lexed p.command.lexed.within r
   run_or_unlexed (IsUnlexed.unparsed t u) = run_or_unparsed t u
 
--- one reply, numbering and session
-pub record IsOneAnswer (a b : Reply) (names other : Names) (new last : Session) : Type 0 where
-  pub reply : a ≡ b
-  pub numbering : names ≡ other
-  pub session : new ≡ last
-
-pub one_answer : {limit : ℕ} {held : Names} {old : Session} → HasNoLevels old → HaveDistinctNames (entries_of old) → {c : CommandText} {a b : Reply} {names other : Names} {new last : Session}
-    → Answers limit held old c a names new → Answers limit held old c b other last → IsOneAnswer a b names other new last
-one_answer {limit} {old = old} none differ {b = b} {names = names} {last = last} (Answers.step {o = o} n p built s) (Answers.step {o = o'} n' p' built' s') =
-    let same = one_step none differ s
-    (subst (λ o. Step names limit old o b last) (sym (one_command p p' n)) (subst (λ ns. Step ns limit old o' b last) (sym (one_numbering p p')) s')) in
-    record { reply = same.reply; numbering = one_numbering p p'; session = same.session }
-one_answer none differ (Answers.step n p built s) (Answers.unread n' u) = absurd (run_or_unlexed n p built (by_parts u))
-one_answer none differ (Answers.unread n u) (Answers.step n' p built s) = absurd (run_or_unlexed n' p built (by_parts u))
-one_answer {old = old} none differ (Answers.unread n u) (Answers.unread n' u') =
-    let one = one_unlexed n.few n'.few (by_parts u) (by_parts u') in
-    record {
-      reply = λ z. record { refused = true; text = refusal_text (one.names z) (scope_of old) (one.same.place z) (one.same.cause z) };
-      numbering = one.names;
-      session = refl;
-    }
+-- a command's bytes are read in one way
+pub commands_are_read_in_one_way : CommandsAreReadInOneWay
+commands_are_read_in_one_way held c = record {
+  command = λ names other o o' n p q. (one_numbering p q, one_command p q n);
+  refusal = λ left other p q x y few few' u u'.
+      let one = one_unlexed few few' (by_parts u) (by_parts u') in
+      (one.names, one.same.place, one.same.cause);
+  not_both = λ names left o p x n command built u. run_or_unlexed n command built (by_parts u);
+}
