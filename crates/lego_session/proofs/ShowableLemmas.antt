@@ -78,7 +78,7 @@ module _ (names : Names) (true_names : AreTrueNames names) where
   binders (Let x m n) h = (plain OfLocal x h.0, binders m h.1, binders n h.2)
 
 has_one : (o : Option Entry) → IsSome o → IsTrue (unwrap_or (option_map (λ (e : Entry). true) o) false)
-has_one None h = absurd (cc)
+has_one None h = absurd (false≢true h)
 has_one (Some e) h = refl
 
 -- the constants of a term are among the entries
@@ -201,8 +201,8 @@ module _ (names : Names) (c : Contents) (v : Assignment) (context : IsContext c)
       name = is_named.0;
       named = is_named.1;
       is_name = the_name names is_named.0 true_names e.name is_named.1 is_known.name;
-      new_name = no_such_name before is_named.0 (differ_before (names_of before) is_named.0 (names_of es) (subst Differ (names_here is_named.0 is_named.1) context.names));
-      new_number = no_such_number before e.number (differ_before (numbers_of before) e.number (numbers_of es) (subst Differ numbers_here context.numbers));
+      new_name = no_such_name before is_named.0 (differ_before (names_of before) is_named.0 (names_of es) (subst (λ (ns : List ℕ). Differ ns) (names_here is_named.0 is_named.1) context.names));
+      new_number = no_such_number before e.number (differ_before (numbers_of before) e.number (numbers_of es) (subst (λ (ns : List ℕ). Differ ns) numbers_here context.numbers));
       few = let n : length c.entries ≡ length before + suc (length es) = ap length whole ∙ length-append before (e ∷ es) in omega (arith, n, context.few_entries, count_laws before);
       plain = body_plain e.body (is_plain_mark e.mark is_known.plain);
       ty = term names true_names before c.levels e.ty over_front.type is_known.ty;

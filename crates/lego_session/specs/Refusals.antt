@@ -8,7 +8,6 @@ use Rattle.lego_inference.specs.declared.entry.Entry.{Entry as Item}
 use Rattle.lego_inference.specs.declared.fault.Counted.{Counted}
 use Rattle.lego_inference.specs.declared.fault.Counted.TheVariants.{Entries, Levels}
 use Rattle.lego_print.specs.declared.heading.Heading.{Heading}
-use Rattle.lego_print.specs.declared.heading.Heading.TheVariants as Heading
 use Rattle.lego_print.specs.declared.shown.Shown.TheVariants.{Hidden}
 use Rattle.lego_print.specs.Names.{Scope, name_text}
 use Rattle.lego_print.specs.Texts.{seen_text, typing_text}
