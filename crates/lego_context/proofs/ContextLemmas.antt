@@ -1,5 +1,5 @@
 -- A context is one with an entry more.
-use Rattle.std.proofs.Common.{◌≡◌, ℕ, zero, suc, ◌+◌, ◌<◌, ◌≤◌, nat_eq, nat_lt, if◌then◌else◌, Bool, true, false, List, [], ◌∷◌, ◌++◌, map, take, length, Option, Some, None, option_map, IfSome, All, Contains, refl, sym, ap, ◌∙◌, subst, arith}
+use Rattle.std.proofs.Common.{◌≡◌, ℕ, suc, ◌<◌, nat_eq, nat_lt, Bool, true, false, List, [], ◌∷◌, ◌++◌, map, take, length, Option, Some, None, option_map, IfSome, Contains, refl, sym, ap, ◌∙◌, subst, arith}
 use Rattle.std.proofs.lemmas.Bool.{ltb-true, ltb-false}
 use Rattle.std.proofs.lemmas.List.{take_all, take-append-le, length-append}
 use Rattle.std.proofs.lemmas.List.Elements.{All-append, All-cons, All-nil}
@@ -7,28 +7,26 @@ use Rattle.std.proofs.lemmas.Bool.Decides.{nat_tests}
 use Rattle.lego_term.specs.Levels.{Assignment, SatisfiesAll}
 use Rattle.lego_term.specs.Trees.{Core, Term, at, loose}
 use Rattle.lego_laws.specs.Parallel.{AreClosed}
-use Rattle.lego_laws.specs.Entries.{Entry, Constant, entry_at, entries_at, entry_of, constant_of, bodies_of, core_bodies, kept}
+use Rattle.lego_laws.specs.Entries.{Constant, entry_at, entries_at, constant_of, bodies_of, core_bodies, kept}
 use Rattle.lego_laws.specs.Derivations.{types_of}
-use Rattle.lego_laws.specs.Judgement.{Has, IsType, grow_constant}
-use Rattle.lego_laws.specs.Valid.{AreValid, BodiesFit, AlwaysValid}
-use Rattle.lego_laws.specs.Principal.{core_types, entries_bound}
-use Rattle.lego_laws.specs.Ranges.{Context, locals_bound}
+use Rattle.lego_laws.specs.Judgement.{Has, grow_constant}
+use Rattle.lego_laws.specs.Valid.{AreValid, AlwaysValid}
+use Rattle.lego_laws.specs.Principal.{core_types}
+use Rattle.lego_laws.specs.Ranges.{Context}
 use Rattle.lego_laws.specs.RuleTypeLaws.{AreScoped}
 use Rattle.lego_laws.proofs.lemmas.reduction.Valued.{loose-map}
 use Rattle.lego_term.specs.Levels.{level_value}
 use Rattle.lego_laws.proofs.lemmas.principal.EntriesAt.{entries_at_values, entries_and_locals_are_a_context}
 use Rattle.lego_laws.proofs.lemmas.typing.Entries.{types_closed, bodies_closed, loose_within}
-use Rattle.lego_laws.proofs.lemmas.typing.Rules.{known}
-use Rattle.lego_laws.specs.Derivations.{ValidLocals, v_none, v_local}
+use Rattle.lego_laws.specs.Derivations.{ValidLocals, v_local}
 use Rattle.lego_laws.proofs.lemmas.typing.TypingLaws.{constants_valid}
-use Rattle.lego_level.specs.Graphs.{pairs_of, CanBeSatisfiedWithin, Differ}
+use Rattle.lego_level.specs.Graphs.{CanBeSatisfiedWithin, Differ}
 use Rattle.lego_inference.specs.declared.entry.Entry.{Entry as Item}
 use Rattle.lego_inference.specs.declared.locals.Local.{Local}
-use Rattle.lego_inference.specs.Calls.{AreHeld}
 use Rattle.lego_inference.specs.Entries.{laws_entry, laws_entries, numbers_of}
 use Rattle.lego_inference.specs.Locals.{types_of as types_of_locals}
-use Rattle.lego_context.specs.Entries.{constraints_of, names_of, IsEntry, HasNoHole, IsLeastFree}
-use Rattle.lego_context.specs.Contexts.{Contents, IsContext, AreFrontsValid}
+use Rattle.lego_context.specs.Entries.{names_of, IsEntry, HasNoHole}
+use Rattle.lego_context.specs.Contexts.{Contents, IsContext, AreFrontsValid, IsSmallEntry}
 use Rattle.lego_context.specs.Calls.{AreLocals}
 use Rattle.lego_context.specs.Causes.{together}
 use Rattle.lego_context.specs.Changes.{with_entry}
@@ -36,6 +34,7 @@ use Rattle.lego_context.specs.private.Adding.{IsNext}
 use Rattle.lego_context.proofs.EntryLemmas.{constraints-push, kept_is, entries_at-push, entries_at-cons, push_satisfied, bound-push, differ-push}
 use Rattle.lego_context.proofs.NameLemmas.{apart_from, names-push}
 use Rattle.lego_context.proofs.NumberLemmas.{numbers-push}
+use Rattle.lego_context.proofs.HoleLemmas.{holes-push}
 
 -- what is closed at an assignment is closed
 closed_core : (v : Assignment) (o : Option Core) (p : Option Term) → p ≡ option_map (at v) o → ((t : Term) → p ≡ Some t → loose t ≡ 0) → (m : Core) → o ≡ Some m → loose m ≡ 0
@@ -44,7 +43,7 @@ closed_core v o p e closed m is =
 
 module _ (c : Contents) (x : IsContext c) where
   -- some assignment satisfies the constraints held
-  held : (v : Assignment) × SatisfiesAll v (kept (laws_entries c.entries))
+  pub held : (v : Assignment) × SatisfiesAll v (kept (laws_entries c.entries))
   held = (x.satisfiable.0, subst (SatisfiesAll x.satisfiable.0) (sym (kept_is c.entries)) x.satisfiable.1)
 
   pub types_are_closed : AreClosed (core_types (laws_entries c.entries))
@@ -59,7 +58,7 @@ module _ (c : Contents) (x : IsContext c) where
       let valid = x.valid v held.1 in
       closed_core v (core_bodies (laws_entries c.entries) k) (bodies_of (entries_at v (laws_entries c.entries)) k) (entries_at_values (laws_entries c.entries) v valid k).1 (bodies_closed (constants_valid (entries_at v (laws_entries c.entries)) valid) k) m is
 
-  scoped : (v : Assignment) (g : List Core) → ValidLocals (types_of (entries_at v (laws_entries c.entries))) (bodies_of (entries_at v (laws_entries c.entries))) (map (at v) g) → AreScoped g
+  pub scoped : (v : Assignment) (g : List Core) → ValidLocals (types_of (entries_at v (laws_entries c.entries))) (bodies_of (entries_at v (laws_entries c.entries))) (map (at v) g) → AreScoped g
   scoped v [] w = tt
   scoped v (a ∷ g) (v_local rest d) =
       let l = loose_within d in
@@ -76,18 +75,9 @@ module _ (c : Contents) (x : IsContext c) where
     pub serves : Context c.levels (core_types (laws_entries c.entries)) (core_bodies (laws_entries c.entries)) (kept (laws_entries c.entries)) (types_of_locals locals)
     serves = entries_and_locals_are_a_context (laws_entries c.entries) c.levels x.valid types_are_closed bodies_are_closed x.entries_held (types_of_locals locals) l.levels l.types
 
-    pub are_held : AreHeld c.entries locals c.levels
-    are_held = record {
-      entries = x.entries_held;
-      types = l.levels;
-      scoped = scoped held.0 (types_of_locals locals) (known (l.types held.0 held.1)).locals;
-      few_locals = l.few;
-      few_levels = x.few_levels;
-    }
-
   -- no locals
   pub no_locals : AreLocals c []
-  no_locals = record { types = λ v h. (x.valid v h).valid; levels = omega arith; few = omega arith }
+  no_locals = record { types = λ v h. (x.valid v h).valid; names = tt; levels = omega arith; few = omega arith }
 
 behind : (xs ys : List Constant) (k : ℕ) → constant_of xs k ≡ None → constant_of (xs ++ ys) k ≡ constant_of ys k
 behind [] ys k h = refl
@@ -148,8 +138,11 @@ module _ (c : Contents) (x : IsContext c) (name : ℕ) (e : Item) (levels : ℕ)
     names = subst Differ (sym (names-push c.entries e name next.named)) (differ-push (names_of c.entries) name x.names (apart_from (names_of c.entries) name next.new));
     numbers = subst Differ (sym (numbers-push c.entries e)) (differ-push (numbers_of c.entries) e.number x.numbers (apart_from (numbers_of c.entries) e.number next.number.free));
     kinds = All-append IsEntry c.entries (e ∷ []) x.kinds (All-cons IsEntry e [] next.entry (All-nil IsEntry));
+    holes = holes-push c.entries e next.no_hole;
+    small = All-append IsSmallEntry c.entries (e ∷ []) x.small (All-cons IsSmallEntry e [] next.small (All-nil IsSmallEntry));
     few_entries = omega (arith, length-append c.entries (e ∷ []));
     few_levels = next.few_levels;
     entries_held = bound-push c.entries e levels (let h = x.entries_held in let g = next.grows in omega arith) next.type_held next.body_held next.constraints_held;
     universes_held = λ k d l. let u = x.universes_held k d l in let g = next.grows in omega arith;
+    universes_differ = x.universes_differ;
   }

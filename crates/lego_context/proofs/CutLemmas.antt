@@ -1,7 +1,7 @@
 -- Contexts without their last entries.
-use Rattle.std.proofs.Common.{◌≡◌, ℕ, zero, suc, ◌+◌, ◌-◌, ◌<◌, ◌≤◌, ◌⊎◌, ⊎_elim, min, nat_lt, Bool, true, false, List, [], ◌∷◌, ◌++◌, take, drop, length, Option, Some, None, All, Contains, refl, sym, ap, ◌∙◌, subst, append_assoc, length-append, arith}
+use Rattle.std.proofs.Common.{◌≡◌, ℕ, zero, suc, ◌+◌, ◌-◌, ◌<◌, ◌≤◌, ⊎_elim, min, nat_lt, Bool, true, false, List, [], ◌∷◌, ◌++◌, map, take, drop, length, Option, Some, None, All, Contains, refl, sym, ap, ◌∙◌, subst, append_assoc, length-append, arith}
 use Rattle.std.proofs.lemmas.List.{map-append}
-use Rattle.std.proofs.lemmas.List.Elements.{Contains-append_left, All-take, filter_map-append}
+use Rattle.std.proofs.lemmas.List.Elements.{Contains-append_left, All-take}
 use Rattle.std.proofs.lemmas.Bool.Decides.{nat_tests}
 use Rattle.std.specs.List.{AllByRecursion}
 use Rattle.lego_term.specs.Levels.{SatisfiesAll}
@@ -14,12 +14,15 @@ use Rattle.lego_inference.specs.declared.entry.Entry.{Entry as Item}
 use Rattle.lego_inference.specs.declared.entry.Universe.{Universe}
 use Rattle.lego_inference.specs.Entries.{laws_entries, numbers_of}
 use Rattle.lego_context.specs.Entries.{constraints_of, names_of, HasNoHole, IsLeastFree, IsEntry}
-use Rattle.lego_context.specs.Contexts.{Contents, IsContext, AreFrontsValid}
+use Rattle.lego_context.specs.Contexts.{Contents, IsContext, AreFrontsValid, CanStandAlone, IsSmallEntry}
 use Rattle.lego_context.specs.Cutting.{CanBeCut, cut_of}
 use Rattle.lego_context.specs.private.Kept.{IsKept, with_name, places_from}
 use Rattle.lego_context.specs.private.Cuts.{without_name}
 use Rattle.lego_context.proofs.EntryLemmas.{constraints-push}
+use Rattle.lego_context.proofs.NameLemmas.{whole, names_split}
 use Rattle.lego_context.proofs.NumberLemmas.{numbers-push}
+use Rattle.lego_context.proofs.HoleLemmas.{holes-take}
+use Rattle.lego_context.proofs.UniverseLemmas.{universes-take}
 
 module _ {X : Type 0} where
   -- the first items of a list that is put together
@@ -35,11 +38,6 @@ module _ {X : Type 0} where
   length-take zero xs = omega arith
   length-take (suc n) [] = omega arith
   length-take (suc n) (x ∷ xs) = let shorter = length-take n xs in omega arith
-
-  whole : (n : ℕ) (xs : List X) → xs ≡ take n xs ++ drop n xs
-  whole zero xs = refl
-  whole (suc n) [] = refl
-  whole (suc n) (x ∷ xs) = ap (λ ys. x ∷ ys) (whole n xs)
 
   take_twice : (m n : ℕ) (xs : List X) → take m (take n xs) ≡ take (min m n) xs
   take_twice zero n xs = let none : min 0 n ≡ 0 = omega arith in rw none refl
@@ -155,10 +153,7 @@ bound_front zero es = omega arith
 bound_front (suc n) [] = omega arith
 bound_front (suc n) (e ∷ es) = let rest = bound_front n es in omega arith
 
--- names and numbers of the first entries, and of the others
-pub names_split : (n : ℕ) (es : List Item) → names_of es ≡ names_of (take n es) ++ names_of (drop n es)
-names_split n es = ap names_of (whole n es) ∙ filter_map-append (λ (e : Item). e.name) (take n es) (drop n es)
-
+-- the numbers of the first entries, and of the others
 numbers_split : (n : ℕ) (es : List Item) → numbers_of es ≡ numbers_of (take n es) ++ numbers_of (drop n es)
 numbers_split n es = ap numbers_of (whole n es) ∙ map-append (λ (e : Item). e.number) (take n es) (drop n es)
 
@@ -168,20 +163,23 @@ fronts_of_front n es h m no_hole =
     subst (λ (xs : List Item). AlwaysValid (laws_entries xs)) (sym is) (h (min m n) (subst HasNoHole is no_hole))
 
 -- entries that can stand alone, with universes over their level variables, are a context
-pub front_context : (c : Contents) (n : ℕ) (us : List Universe) (levels : ℕ) → IsContext c → HasNoHole (take n c.entries) ⊎ AlwaysValid (laws_entries (take n c.entries))
+pub front_context : (c : Contents) (n : ℕ) (us : List Universe) (levels : ℕ) → IsContext c → CanStandAlone (take n c.entries)
     → levels ≤ 1048576 → entries_bound (laws_entries (take n c.entries)) ≤ levels → All (λ u. u.variable < levels) us
-    → IsContext (record { entries = take n c.entries; universes = us; levels = levels })
-front_context c n us levels h alone few held universes = record {
+    → Differ (map (λ u. u.variable) us) → IsContext (record { entries = take n c.entries; universes = us; levels = levels })
+front_context c n us levels h alone few held universes differ = record {
   valid = ⊎_elim (λ (no_hole : HasNoHole (take n c.entries)). h.fronts n no_hole) (λ (valid : AlwaysValid (laws_entries (take n c.entries))). valid) alone;
   fronts = fronts_of_front n c.entries h.fronts;
   satisfiable = satisfiable_front n c.entries h.satisfiable;
   names = differ_in_front (names_of (take n c.entries)) (names_of (drop n c.entries)) (subst Differ (names_split n c.entries) h.names);
   numbers = differ_in_front (numbers_of (take n c.entries)) (numbers_of (drop n c.entries)) (subst Differ (numbers_split n c.entries) h.numbers);
   kinds = All-take IsEntry n c.entries h.kinds;
+  holes = holes-take n c.entries h.holes;
+  small = All-take IsSmallEntry n c.entries h.small;
   few_entries = let shorter = length-take n c.entries in let few = h.few_entries in omega arith;
   few_levels = few;
   entries_held = held;
   universes_held = universes;
+  universes_differ = differ;
 }
 
 -- the items before the last
@@ -196,7 +194,7 @@ pub cut_is_context : (c : Contents) (entries universes levels : ℕ) (es : List 
 cut_is_context c entries universes levels es us asked h first held =
     let few = h.few_levels in
     let within = asked.levels_within in
-    rw (first, held) (front_context c entries (take universes c.universes) levels h asked.alone (omega arith) asked.entries_held asked.universes_held)
+    rw (first, held) (front_context c entries (take universes c.universes) levels h asked.alone (omega arith) asked.entries_held asked.universes_held (universes-take universes c.universes h.universes_differ))
 
 pub cut_is : (c : Contents) (entries universes levels : ℕ) (es : List Item) (us : List Universe) → es ≡ take entries c.entries → us ≡ take universes c.universes
     → record { entries = es; universes = us; levels = levels } ≡ cut_of c entries universes levels

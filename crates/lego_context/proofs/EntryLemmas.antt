@@ -1,10 +1,10 @@
 -- Lists of entries, and of constraints.
-use Rattle.std.proofs.Common.{◌≡◌, ℕ, zero, suc, ◌+◌, ◌≤◌, max, List, [], ◌∷◌, ◌++◌, map, reverse, length, refl, sym, ap, ◌∙◌, subst, append_assoc, arith}
+use Rattle.std.proofs.Common.{◌≡◌, ℕ, ◌≤◌, List, [], ◌∷◌, ◌++◌, map, reverse, refl, sym, ap, ◌∙◌, subst, append_assoc, arith}
 use Rattle.std.proofs.lemmas.List.{map-append, reverse-append}
 use Rattle.std.specs.List.{AllByRecursion}
 use mathlib.Core.List.{reverse-cons}
-use Rattle.lego_term.specs.Levels.{Assignment, LevelPair, SatisfiesAll}
-use Rattle.lego_laws.specs.Entries.{Entry, Constant, entry_at, entries_at, kept}
+use Rattle.lego_term.specs.Levels.{Assignment, SatisfiesAll}
+use Rattle.lego_laws.specs.Entries.{entry_at, entries_at, kept}
 use Rattle.lego_laws.specs.Principal.{entries_bound, body_bound}
 use Rattle.lego_laws.specs.Ranges.{levels_bound, pairs_bound}
 use Rattle.lego_laws.proofs.lemmas.inference.Satisfying.{satisfies_append, satisfies_front, satisfies_back}

@@ -1,5 +1,5 @@
 -- What a check over a context answers fits.
-use Rattle.std.proofs.Common.{◌≡◌, ℕ, ◌+◌, ◌≤◌, List, [], ◌∷◌, map, Option, Some, None, refl, sym, ap, ◌∙◌, subst, arith}
+use Rattle.std.proofs.Common.{◌≡◌, ◌+◌, List, map, Option, Some, None, arith}
 use Rattle.lego_base.specs.declared.place.Place.{Place}
 use Rattle.lego_term.specs.declared.level.Level.{Level}
 use Rattle.lego_term.specs.Levels.{Assignment, LevelPair, SatisfiesAll}

@@ -1,7 +1,12 @@
 pub mod EntryLemmas
 pub mod NameLemmas
 pub mod NumberLemmas
+pub mod HoleLemmas
+pub mod UniverseLemmas
 pub mod ContextLemmas
+pub mod LeafLemmas
+pub mod FrontLemmas
+pub mod HeldLemmas
 pub mod PureLemmas
 pub mod FitLemmas
 pub mod TypingLemmas
@@ -10,5 +15,6 @@ pub mod StoreLemmas
 pub mod NextLemmas
 pub mod CutLemmas
 pub mod SettleLemmas
+pub mod TypedLemmas
 pub mod VariableLemmas
 pub mod ListLemmas

@@ -14,8 +14,8 @@ use Rattle.lego_context.specs.private.Kept.{with_name, places_from}
 use Rattle.lego_context.specs.private.Lists.{IsNewPlace}
 use Rattle.lego_context.specs.Causes.{IsNewName}
 use Rattle.lego_context.proofs.EntryLemmas.{constraints-push}
-use Rattle.lego_context.proofs.NameLemmas.{place_is, no_place, names-push}
-use Rattle.lego_context.proofs.CutLemmas.{differ_in_front, names_split, satisfiable_front, places-append}
+use Rattle.lego_context.proofs.NameLemmas.{place_is, no_place, names-push, names_split}
+use Rattle.lego_context.proofs.CutLemmas.{differ_in_front, satisfiable_front, places-append}
 
 -- the next item goes behind those taken
 pub next_taken : {X : Type 0} (xs : List X) (i : ℕ) (x : X) → i < length xs → x ≡ get_or xs i x → take (i + 1) xs ≡ take i xs ++ x ∷ []
@@ -100,8 +100,11 @@ lists_are_context es us h = record {
   names = h.names;
   numbers = h.numbers;
   kinds = h.kinds;
+  holes = h.holes;
+  small = h.small;
   few_entries = h.few_entries;
   few_levels = h.few_levels;
   entries_held = omega arith;
   universes_held = universes_below (levels_named es us) us (omega arith);
+  universes_differ = h.universes_differ;
 }

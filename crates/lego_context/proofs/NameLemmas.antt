@@ -1,5 +1,5 @@
 -- Names and their places.
-use Rattle.std.proofs.Common.{◌≡◌, ℕ, zero, suc, ◌+◌, ◌<◌, ◌≤◌, nat_eq, nat_lt, if◌then◌else◌, Bool, true, false, List, [], ◌∷◌, ◌++◌, filter_map, length, position, Option, Some, None, option_map, Contains, refl, sym, ap, ◌∙◌, subst, arith}
+use Rattle.std.proofs.Common.{◌≡◌, ℕ, zero, suc, ◌+◌, nat_eq, nat_lt, if◌then◌else◌, Bool, true, false, List, [], ◌∷◌, ◌++◌, take, drop, length, position, Option, Some, None, option_map, Contains, refl, sym, ap, ◌∙◌, arith}
 use Rattle.std.specs.List.{position_or_len, AllByRecursion}
 use Rattle.indexmap.specs.IndexMap.{insert_entry}
 use Rattle.std.specs.Map.{lookup}
@@ -149,3 +149,12 @@ apart_from (x ∷ xs) y h = (λ e. h (0, omega arith, e), apart_from xs y (λ c.
 
 pub names-push : (es : List Item) (e : Item) (name : ℕ) → e.name ≡ Some name → names_of (es ++ e ∷ []) ≡ names_of es ++ name ∷ []
 names-push es e name is = filter_map-append (λ (x : Item). x.name) es (e ∷ []) ∙ ap (λ ys. names_of es ++ ys) (rw is refl)
+
+pub whole : {X : Type 0} (n : ℕ) (xs : List X) → xs ≡ take n xs ++ drop n xs
+whole zero xs = refl
+whole (suc n) [] = refl
+whole (suc n) (x ∷ xs) = ap (λ ys. x ∷ ys) (whole n xs)
+
+-- the names of the first entries, and of the others
+pub names_split : (n : ℕ) (es : List Item) → names_of es ≡ names_of (take n es) ++ names_of (drop n es)
+names_split n es = ap names_of (whole n es) ∙ filter_map-append (λ (e : Item). e.name) (take n es) (drop n es)

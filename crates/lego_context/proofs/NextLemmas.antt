@@ -1,15 +1,14 @@
 -- What a check answers of is fit to be the next entry.
-use Rattle.std.proofs.Common.{◌≡◌, ℕ, ◌+◌, ◌<◌, ◌≤◌, List, [], ◌∷◌, length, Option, Some, None, IfSome, Ok, Err, Result, refl, sym, ap, ◌∙◌, subst, arith}
+use Rattle.std.proofs.Common.{◌≡◌, ℕ, ◌≤◌, List, [], Option, Some, None, IfSome, Ok, Err, Result, refl, sym, subst, arith}
 use Rattle.lego_term.specs.declared.binder.Mark.{Mark}
 use Rattle.lego_term.specs.Levels.{Assignment, LevelPair, SatisfiesAll}
-use Rattle.lego_term.specs.Trees.{Core, at, loose}
+use Rattle.lego_term.specs.Trees.{Core, at}
 use Rattle.lego_laws.specs.Entries.{entries_at, kept}
 use Rattle.lego_laws.specs.Fitting.{FitsType}
 use Rattle.lego_laws.specs.Judgement.{Has, IsType}
 use Rattle.lego_laws.specs.Places.{Task, Aim}
-use Rattle.lego_laws.specs.Ranges.{levels_bound, pairs_bound}
+use Rattle.lego_laws.specs.Ranges.{pairs_bound}
 use Rattle.lego_laws.specs.Tasks.{FitsAim}
-use Rattle.lego_laws.proofs.lemmas.principal.Scoped.{rule_types_are_scoped}
 use Rattle.lego_laws.proofs.lemmas.principal.Tasks.{fitting_types_are_types}
 use Rattle.lego_laws.proofs.lemmas.typing.TypingLaws.{type_correctness_law}
 use Rattle.lego_level.specs.Graphs.{pairs_of}
@@ -20,13 +19,15 @@ use Rattle.lego_inference.specs.declared.locals.Local.{Local}
 use Rattle.lego_inference.specs.Calls.{IsTermOver, task_over, Infers as InfersOver, ChecksWritten as ChecksWrittenOver}
 use Rattle.lego_inference.specs.Entries.{laws_entries}
 use Rattle.lego_inference.specs.Inferred as over
-use Rattle.lego_context.specs.Entries.{HasNoHole, IsLeastFree}
+use Rattle.lego_inference.specs.Inferred.{AreGathered}
+use Rattle.lego_context.specs.Entries.{IsLeastFree}
 use Rattle.lego_context.specs.Contexts.{Contents, IsContext}
 use Rattle.lego_context.specs.Calls.{CanTakeType, CanTakeBody, Assumes, Defines}
 use Rattle.lego_context.specs.Causes.{AreAsked, IsNewName}
 use Rattle.lego_context.specs.Changes.{assumption, definition, type_task, body_task, aim_of, FitsDefinition, IsAssumed, IsDefined}
 use Rattle.lego_context.specs.private.Adding.{IsNext, Stores, IsJudged, Judges}
-use Rattle.lego_context.proofs.ContextLemmas.{no_locals, serves, types_are_closed, bodies_are_closed}
+use Rattle.lego_context.proofs.ContextLemmas.{no_locals}
+use Rattle.lego_context.proofs.LeafLemmas.{small_levels}
 use Rattle.lego_context.proofs.FitLemmas.{fits_rule, fits_type, fits_written}
 use Rattle.lego_context.proofs.CauseLemmas.{add_fails}
 
@@ -52,6 +53,7 @@ module _ (c : Contents) (x : IsContext c) (name number : ℕ) (new : IsNewName c
           entry = record { kind = refl; products = tt };
           closed_type = omega arith;
           closed_body = tt;
+          small = record { type = small_levels (laws_entries c.entries) ty can.term.names; body = tt };
           grows = omega arith;
           few_levels = j.inferred.gathered.within;
           type_held = omega arith;
@@ -61,16 +63,16 @@ module _ (c : Contents) (x : IsContext c) (name number : ℕ) (new : IsNewName c
           body = λ v h k. tt;
         }
 
-    asked_of_type : AreAsked (type_task c ty) judged.constraints
+    asked_of_type : AreAsked (type_task c ty) asked.place judged.constraints
     asked_of_type = record {
       fits = subst (λ n. FitsType c.levels n (laws_entries c.entries) [] ty (pairs_of judged.constraints)) j.inferred.gathered.count (fits_type c x [] (no_locals c x) ty can.term asked.place judged j);
-      of_core = j.inferred.gathered.of_core;
+      gathered = subst (AreGathered (type_task c ty) asked.place judged.constraints) j.inferred.gathered.count j.inferred.gathered;
     }
 
     -- what is stored is assumed
     pub assumes : (mark : Mark) (after : Contents) (r : Result (Unit {0}) TypeFault) → Stores c (assumption number name mark ty judged.constraints) judged.levels after r
         → Assumes c name mark ty asked after r
-    assumes mark after (Ok done) is = (
+    assumes mark after (Ok done) (is, within, room) = (
       new,
       subst (IsAssumed c name mark ty asked.place) (sym is) (record {
         number = number;
@@ -79,14 +81,15 @@ module _ (c : Contents) (x : IsContext c) (name number : ℕ) (new : IsNewName c
         least = least;
         fits = fits_type c x [] (no_locals c x) ty can.term asked.place judged j;
         gathered = j.inferred.gathered;
+        within = within;
+        room = room;
       }),
     )
     assumes mark after (Err fault) (fails, kept) =
-        (add_fails c.entries (type_task c ty) judged.constraints x.valid refl asked_of_type j.inferred.gathered.shape name asked.limit fault new fails, kept)
+        (add_fails c.entries (type_task c ty) judged.constraints x.valid refl asked asked_of_type name fault new fails, kept)
 
 -- what fits as a definition
 record Typed (c : Contents) (body ty : Core) (k : List LevelPair) (levels : ℕ) : Type 0 where
-  pub closed : loose ty ≡ 0
   pub within : pairs_bound k ≤ levels
   pub type : (v : Assignment) → SatisfiesAll v (kept (laws_entries c.entries)) → SatisfiesAll v k → IsType (entries_at v (laws_entries c.entries)) [] (at v ty)
   pub has : (v : Assignment) → SatisfiesAll v (kept (laws_entries c.entries)) → SatisfiesAll v k → Has (entries_at v (laws_entries c.entries)) [] (at v body) (at v ty)
@@ -94,17 +97,12 @@ record Typed (c : Contents) (body ty : Core) (k : List LevelPair) (levels : ℕ)
 module _ (c : Contents) (x : IsContext c) (body : Core) (term : IsTermOver c.entries [] c.levels body) where
   typed : (written : Option Core) (ty : Core) (k : List LevelPair) (levels : ℕ) → IfSome written (λ a. IsTermOver c.entries [] c.levels a)
       → FitsDefinition c.levels levels (laws_entries c.entries) body written ty k → Typed c body ty k levels
-  typed None ty k levels w (FitsDefinition.by_rule f) =
-      let l = rule_types_are_scoped (laws_entries c.entries) (types_are_closed c x) (bodies_are_closed c x) (λ i. i) [] tt c.levels body ty term.variables f.rule.rule in
-      record {
-        closed = omega arith;
-        within = f.within;
-        type = λ v h s. type_correctness_law (entries_at v (laws_entries c.entries)) (x.valid v h) [] (at v body) (at v ty) (f.fits.sound v h s);
-        has = λ v h s. f.fits.sound v h s;
-      }
-  typed (Some a) ty k levels w (FitsDefinition.as_written f) =
-      let l = w.variables in
-      record { closed = omega arith; within = f.within; type = λ v h s. f.is_type v h s; has = λ v h s. f.sound v h s }
+  typed None ty k levels w (FitsDefinition.by_rule f) = record {
+    within = f.within;
+    type = λ v h s. type_correctness_law (entries_at v (laws_entries c.entries)) (x.valid v h) [] (at v body) (at v ty) (f.fits.sound v h s);
+    has = λ v h s. f.fits.sound v h s;
+  }
+  typed (Some a) ty k levels w (FitsDefinition.as_written f) = record { within = f.within; type = λ v h s. f.is_type v h s; has = λ v h s. f.sound v h s }
 
   aimed : (written : Option Core) (ty : Core) (k : List LevelPair) (levels : ℕ) → FitsDefinition c.levels levels (laws_entries c.entries) body written ty k
       → FitsAim c.levels levels (laws_entries c.entries) [] body k (aim_of written)
@@ -115,7 +113,7 @@ module _ (c : Contents) (x : IsContext c) (body : Core) (term : IsTermOver c.ent
   pub judges_by_rule : (asked : At) (r : Result Judged TypeFault) → InfersOver (body_task c body None) asked r → Judges c body None asked r
   judges_by_rule asked (Ok judged) j = record {
     fits = FitsDefinition.by_rule (fits_rule c x [] (no_locals c x) body term asked.place judged j);
-    type_held = (j.fits (kept (laws_entries c.entries)) (serves c x [] (no_locals c x))).type_within;
+    over = j.over;
     gathered = j.gathered;
   }
   judges_by_rule asked (Err fault) f = f
@@ -128,7 +126,7 @@ module _ (c : Contents) (x : IsContext c) (body : Core) (term : IsTermOver c.ent
       let within = w.levels_within in
       record {
         fits = subst (λ z. FitsDefinition c.levels judged.levels (laws_entries c.entries) body (Some written) z (pairs_of judged.constraints)) (sym j.type) (FitsDefinition.as_written f);
-        type_held = subst (λ z. levels_bound z ≤ judged.levels) (sym j.type) (omega arith);
+        over = subst (λ z. IsTermOver c.entries [] judged.levels z) (sym j.type) (record { names = w.names; variables = w.variables; levels_within = omega arith });
         gathered = j.gathered;
       }
   judges_written written w asked (Err fault) f = f
@@ -147,26 +145,27 @@ module _ (c : Contents) (x : IsContext c) (name number : ℕ) (new : IsNewName c
           new = new;
           number = least;
           entry = record { kind = refl; products = tt };
-          closed_type = t.closed;
+          closed_type = let l = j.over.variables in omega arith;
           closed_body = omega arith;
+          small = record { type = small_levels (laws_entries c.entries) judged.ty j.over.names; body = small_levels (laws_entries c.entries) body can.term.names };
           grows = omega arith;
           few_levels = j.gathered.within;
-          type_held = j.type_held;
+          type_held = j.over.levels_within;
           body_held = omega arith;
           constraints_held = t.within;
           type = t.type;
           body = t.has;
         }
 
-    asked_of_body : AreAsked (body_task c body written) judged.constraints
+    asked_of_body : AreAsked (body_task c body written) asked.place judged.constraints
     asked_of_body = record {
       fits = subst (λ n. FitsAim c.levels n (laws_entries c.entries) [] body (pairs_of judged.constraints) (aim_of written)) j.gathered.count (aimed c x body can.term written judged.ty (pairs_of judged.constraints) judged.levels j.fits);
-      of_core = j.gathered.of_core;
+      gathered = subst (AreGathered (body_task c body written) asked.place judged.constraints) j.gathered.count j.gathered;
     }
 
     -- what is stored is defined
     pub defines : (after : Contents) (r : Result (Unit {0}) TypeFault) → Stores c (definition number name judged.ty body judged.constraints) judged.levels after r → Defines c name body written asked after r
-    defines after (Ok done) is = (
+    defines after (Ok done) (is, within, room) = (
       new,
       subst (IsDefined c name body written asked.place) (sym is) (record {
         number = number;
@@ -176,7 +175,9 @@ module _ (c : Contents) (x : IsContext c) (name number : ℕ) (new : IsNewName c
         least = least;
         fits = j.fits;
         gathered = j.gathered;
+        within = within;
+        room = room;
       }),
     )
     defines after (Err fault) (fails, kept) =
-        (add_fails c.entries (body_task c body written) judged.constraints x.valid refl asked_of_body j.gathered.shape name asked.limit fault new fails, kept)
+        (add_fails c.entries (body_task c body written) judged.constraints x.valid refl asked asked_of_body name fault new fails, kept)

@@ -1,5 +1,5 @@
 -- What is kept of a context with an entry more.
-use Rattle.std.proofs.Common.{◌≡◌, ℕ, zero, suc, ◌+◌, ◌<◌, ◌≤◌, List, [], ◌∷◌, ◌++◌, take, length, get_or, refl, sym, ap, ◌∙◌, subst, arith}
+use Rattle.std.proofs.Common.{◌≡◌, ℕ, zero, suc, ◌<◌, List, [], ◌∷◌, ◌++◌, take, length, get_or, refl, sym, ap, ◌∙◌, subst, arith}
 use Rattle.std.proofs.lemmas.List.Elements.{All-nil}
 use Rattle.lego_term.specs.Levels.{Assignment}
 use Rattle.lego_laws.specs.Entries.{entries_at}
@@ -10,10 +10,9 @@ use Rattle.lego_level.specs.Graphs.{CanBeSatisfiedWithin}
 use Rattle.lego_inference.specs.declared.entry.Entry.{Entry as Item}
 use Rattle.lego_inference.specs.declared.entry.Universe.{Universe}
 use Rattle.lego_inference.specs.declared.fault.TypeFault.{TypeFault}
-use Rattle.lego_inference.specs.declared.fault.TypeFault.TheVariants as fault
 use Rattle.lego_inference.specs.Entries.{laws_entries}
 use Rattle.lego_context.specs.Entries.{constraints_of, IsEntry, IsLeastFree}
-use Rattle.lego_context.specs.Contexts.{Contents, IsContext, empty}
+use Rattle.lego_context.specs.Contexts.{Contents, IsContext, IsSmallEntry, empty}
 use Rattle.lego_context.specs.Causes.{together}
 use Rattle.lego_context.specs.Settling.{IsUnsettled}
 use Rattle.lego_context.specs.private.Adding.{IsNext, StoreFails, EnterFails}
@@ -40,26 +39,12 @@ module _ (c : Contents) (x : IsContext c) (name : ℕ) (e : Item) (levels : ℕ)
 
 -- the refusal of a graph is one of a store
 pub unsettled_fails : (es : List Item) (held more : List Constraint) (f : TypeFault) → held ≡ constraints_of es → IsUnsettled (held ++ more) f → StoreFails es more f
-unsettled_fails es held more f is h = by_fault f (subst (λ k. IsUnsettled (k ++ more) f) is h)
-  where
-    by_fault : (f : TypeFault) → IsUnsettled (together es more) f → StoreFails es more f
-    by_fault (fault.Universe cycle) h = StoreFails.universe h.0 h.1
-    by_fault (fault.LevelTooBig c needed) h = StoreFails.level_too_big h
-    by_fault fault.Memory h = StoreFails.memory
-    by_fault (fault.NotAType term got) h = absurd h
-    by_fault (fault.NotAFunction term got) h = absurd h
-    by_fault (fault.NotAPair term got) h = absurd h
-    by_fault (fault.Mismatch term have want) h = absurd h
-    by_fault (fault.Budget left right) h = absurd h
-    by_fault (fault.TooLarge size depth) h = absurd h
-    by_fault (fault.Full of held) h = absurd h
-    by_fault (fault.Circular hole) h = absurd h
-    by_fault (fault.NameInUse at) h = absurd h
+unsettled_fails es held more f is h = StoreFails.unsettled (subst (λ k. IsUnsettled (k ++ more) f) is h)
 
 -- where the constraints can be satisfied, the refusal of the room is one of a store
 pub room_fails : (es : List Item) (held more : List Constraint) (f : TypeFault) → held ≡ constraints_of es → CanBeSatisfiedWithin (held ++ more) → EnterFails es f → StoreFails es more f
 room_fails es held more f is within (EnterFails.full full) = StoreFails.full (subst (λ k. CanBeSatisfiedWithin (k ++ more)) is within) full
-room_fails es held more f is within EnterFails.memory = StoreFails.memory
+room_fails es held more f is within EnterFails.memory = StoreFails.unsettled tt
 
 -- a context whose entries stay is the same
 pub same_view : (es all : List Item) (us : List Universe) (n : ℕ) (old : Contents) → all ≡ es → record { entries = es; universes = us; levels = n } ≡ old → record { entries = all; universes = us; levels = n } ≡ old
@@ -77,10 +62,13 @@ empty_context = record {
   names = tt;
   numbers = tt;
   kinds = All-nil IsEntry;
+  holes = tt;
+  small = All-nil IsSmallEntry;
   few_entries = omega arith;
   few_levels = omega arith;
   entries_held = omega arith;
   universes_held = All-nil (λ (u : Universe). u.variable < 0);
+  universes_differ = tt;
 }
   where
     front : (n : ℕ) (v : Assignment) → AreValid (entries_at v (laws_entries (take n [])))

@@ -13,7 +13,7 @@ use Rattle.lego_context.proofs.FitLemmas.{fits_rule, fits_wanted}
 
 module _ (c : Contents) (x : IsContext c) (locals : List Local) (m : Core) (asked : At) where
   pub infers : CanBeInferred c locals m → (r : Result Judged TypeFault) → InfersOver (task_over c.entries locals c.levels m AnyType) asked r → Infers c locals m asked r
-  infers can (Ok judged) j = record { fits = fits_rule c x locals can.in_order m can.term asked.place judged j; gathered = j.gathered }
+  infers can (Ok judged) j = record { fits = fits_rule c x locals can.in_order m can.term asked.place judged j; gathered = j.gathered; over = j.over }
   infers can (Err fault) f = f
 
   pub checks : (want : Core) → CanBeChecked c locals m want → (r : Result Judged TypeFault) → ChecksOver (task_over c.entries locals c.levels m (OfType want)) want asked r → Checks c locals m want asked r

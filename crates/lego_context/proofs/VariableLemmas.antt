@@ -16,6 +16,7 @@ use Rattle.lego_inference.specs.Entries.{laws_entries}
 use Rattle.lego_context.specs.Contexts.{Contents, IsContext}
 use Rattle.lego_context.specs.Forgetting.{CanBeForgotten, universes_used, universes_bound}
 use Rattle.lego_context.proofs.CutLemmas.{front_context, bound_front}
+use Rattle.lego_context.proofs.UniverseLemmas.{universes-filter}
 
 bound-push : (es : List Item) (e : Item) → max (max (max (levels_bound e.ty) (body_bound e.body)) (pairs_bound (pairs_of e.constraints))) (entries_bound (laws_entries es)) ≡ entries_bound (laws_entries (es ++ e ∷ []))
 bound-push [] e = omega arith
@@ -105,7 +106,7 @@ front_is_context c at es us levels asked h first used top =
     let below = bound_front at c.entries in
     let held = h.entries_held in
     let few = h.few_levels in
-    rw (top, used, first) (front_context c at (universes_used (take at c.entries) c.universes) (entries_bound (laws_entries (take at c.entries))) h asked.alone (omega arith) (omega arith) (kept_below (take at c.entries) c.universes))
+    rw (top, used, first) (front_context c at (universes_used (take at c.entries) c.universes) (entries_bound (laws_entries (take at c.entries))) h asked.alone (omega arith) (omega arith) (kept_below (take at c.entries) c.universes) (universes-filter (λ u. list_any (entry_uses u.variable) (laws_entries (take at c.entries))) c.universes h.universes_differ))
 
 pub front_fits : (c : Contents) (at : ℕ) (es : List Item) → IsContext c → es ≡ take at c.entries → entries_bound (laws_entries es) ≤ 1048576
 front_fits c at es h first =

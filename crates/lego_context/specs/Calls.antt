@@ -1,5 +1,6 @@
 -- What the calls ask, and what they answer.
 use Rattle.std.specs.Prelude.{◌≡◌, ℕ, ◌<◌, ◌≤◌, List, [], map, length, Option, IfSome, Result, Ok, Err}
+use Rattle.std.specs.List.{AllByRecursion}
 use Rattle.lego_base.specs.declared.place.Place.{Place}
 use Rattle.lego_term.specs.declared.binder.Mark.{Mark}
 use Rattle.lego_term.specs.declared.level.Level.{Level}
@@ -21,16 +22,18 @@ use Rattle.lego_inference.specs.Calls.{IsTermOver, task_over}
 use Rattle.lego_inference.specs.Entries.{laws_entries}
 use Rattle.lego_inference.specs.Failures.{TypeFails}
 use Rattle.lego_inference.specs.Inferred.{AreGathered}
-use Rattle.lego_inference.specs.Locals.{types_of}
+use Rattle.lego_inference.specs.Locals.{types_of, NamesEntries}
 use Rattle.lego_context.specs.Entries.{HasNoHole}
 use Rattle.lego_context.specs.Contexts.{Contents}
 use Rattle.lego_context.specs.Causes.{IsNewName, AddFails}
 use Rattle.lego_context.specs.Changes.{type_task, body_task, IsAssumed, IsDefined, with_universe, with_levels}
 
--- the local types are types in order, at each assignment that satisfies the context's constraints, over levels that it holds
+-- The local types are types in order, at each assignment that satisfies the context's constraints. They name only entries, and
+-- level variables that the context holds, and their levels are small.
 pub record AreLocals (c : Contents) (locals : List Local) : Type 0 where
   pub types : (v : Assignment) → SatisfiesAll v (kept (laws_entries c.entries))
       → Valid (entries_at v (laws_entries c.entries)) (map (at v) (types_of locals))
+  pub names : AllByRecursion (NamesEntries (laws_entries c.entries)) (types_of locals)
   pub levels : locals_bound (types_of locals) ≤ c.levels
   pub few : length locals ≤ 61536
 
@@ -46,10 +49,12 @@ pub record CanBeChecked (c : Contents) (locals : List Local) (m want : Core) : T
   pub is_type : (v : Assignment) → SatisfiesAll v (kept (laws_entries c.entries))
       → IsType (entries_at v (laws_entries c.entries)) (map (at v) (types_of locals)) (at v want)
 
--- m has the answered type, its rule type, under the answered constraints, and the type is principal
+-- m has the answered type, its rule type, under the answered constraints, and the type is principal; it is over the context and the
+-- level variables of the answer, so that it can be checked against
 pub record IsInferred (c : Contents) (locals : List Local) (m : Core) (place : Place) (judged : Judged) : Type 0 where
   pub fits : FitsRule c.levels judged.levels (laws_entries c.entries) (types_of locals) m judged.ty (pairs_of judged.constraints)
   pub gathered : AreGathered (task_over c.entries locals c.levels m AnyType) place judged.constraints judged.levels
+  pub over : IsTermOver c.entries locals judged.levels judged.ty
 
 -- m has the wanted type under the answered constraints, and wherever m has that type they can be satisfied
 pub record IsChecked (c : Contents) (locals : List Local) (m want : Core) (place : Place) (judged : Judged) : Type 0 where
@@ -73,7 +78,7 @@ pub record CanTakeType (c : Contents) (ty : Core) : Type 0 where
 -- the name was new and the entry stands; or the refusal has its cause, and the context is as it was
 abbrev pub Assumes : Contents → ℕ → Mark → Core → At → Contents → Result (Unit {0}) TypeFault → Type 0
 Assumes old name mark ty asked new (Ok done) = IsNewName old.entries name × IsAssumed old name mark ty asked.place new
-Assumes old name mark ty asked new (Err fault) = AddFails old.entries name asked.limit (type_task old ty) fault × (new ≡ old)
+Assumes old name mark ty asked new (Err fault) = AddFails old.entries name (type_task old ty) asked fault × (new ≡ old)
 
 -- there is no hole, and the body and a written type are over the context
 pub record CanTakeBody (c : Contents) (body : Core) (written : Option Core) : Type 0 where
@@ -83,7 +88,7 @@ pub record CanTakeBody (c : Contents) (body : Core) (written : Option Core) : Ty
 
 abbrev pub Defines : Contents → ℕ → Core → Option Core → At → Contents → Result (Unit {0}) TypeFault → Type 0
 Defines old name body ty asked new (Ok done) = IsNewName old.entries name × IsDefined old name body ty asked.place new
-Defines old name body ty asked new (Err fault) = AddFails old.entries name asked.limit (body_task old body ty) fault × (new ≡ old)
+Defines old name body ty asked new (Err fault) = AddFails old.entries name (body_task old body ty) asked fault × (new ≡ old)
 
 -- a level variable more, which is the next; or there is no room, or memory ran out
 abbrev pub MakesLevel : Contents → Place → Contents → Result Level TypeFault → Type 0

@@ -1,5 +1,5 @@
 -- The entries of a context: their constraints, names, numbers and kinds.
-use Rattle.std.specs.Prelude.{◌≡◌, ℕ, zero, suc, ◌<◌, Bool, false, nat_eq, List, [], ◌∷◌, ◌++◌, map, filter_map, position, Option, Some, None, option_map, unwrap_or, All, Contains}
+use Rattle.std.specs.Prelude.{◌≡◌, ℕ, zero, suc, ◌<◌, ◌⊎◌, Bool, false, nat_eq, List, [], ◌∷◌, ◌++◌, filter_map, position, Option, Some, None, option_map, unwrap_or, All, Contains}
 use Rattle.lego_term.specs.Trees.{Core, Pi}
 use Rattle.lego_level.specs.declared.constraint.Constraint.{Constraint}
 use Rattle.lego_level.specs.Graphs.{Differ}
@@ -56,6 +56,11 @@ IsNoHole _ = ⊥
 
 abbrev pub HasNoHole : List Item → Type 0
 HasNoHole es = All (λ e. IsNoHole e.kind) es
+
+-- no named entry stands behind a hole
+abbrev pub HasHolesLast : List Item → Type 0
+HasHolesLast [] = Unit {0}
+HasHolesLast (e ∷ es) = (IsNoHole e.kind ⊎ (names_of es ≡ [])) × HasHolesLast es
 
 -- names differ, and so do numbers
 abbrev pub HaveDistinctNames : List Item → Type 0

@@ -1,24 +1,24 @@
 -- Fronts of contexts, and lists that make contexts.
-use Rattle.std.specs.Prelude.{◌≡◌, ℕ, suc, max, ◌≤◌, ◌⊎◌, List, [], ◌∷◌, filter, take, length, All}
+use Rattle.std.specs.Prelude.{ℕ, suc, max, ◌≤◌, List, [], ◌∷◌, map, filter, take, length, All}
 use Rattle.std.specs.List.{list_any}
 use Rattle.lego_laws.specs.Entries.{entry_uses}
 use Rattle.lego_laws.specs.Valid.{AlwaysValid}
 use Rattle.lego_laws.specs.Principal.{entries_bound}
-use Rattle.lego_level.specs.Graphs.{CanBeSatisfiedWithin}
+use Rattle.lego_level.specs.Graphs.{Differ, CanBeSatisfiedWithin}
 use Rattle.lego_inference.specs.declared.entry.Entry.{Entry as Item}
 use Rattle.lego_inference.specs.declared.entry.Universe.{Universe}
 use Rattle.lego_inference.specs.Entries.{laws_entries}
-use Rattle.lego_context.specs.Entries.{constraints_of, names_of, IsEntry, IsNoHole, HasNoHole, HaveDistinctNames, HaveDistinctNumbers}
-use Rattle.lego_context.specs.Contexts.{Contents, AreFrontsValid}
+use Rattle.lego_context.specs.Entries.{constraints_of, IsEntry, HasHolesLast, HaveDistinctNames, HaveDistinctNumbers}
+use Rattle.lego_context.specs.Contexts.{Contents, AreFrontsValid, CanStandAlone, IsSmallEntry}
 
 -- the written `Type`s whose variables the entries use
 abbrev pub universes_used : List Item → List Universe → List Universe
 universes_used es us = filter (λ u. list_any (entry_uses u.variable) (laws_entries es)) us
 
--- the entries before the place can stand alone: there is no hole, or they are valid under their own constraints
+-- the entries before the place can stand alone
 pub record CanBeForgotten (c : Contents) (at : ℕ) : Type 0 where
   pub within : at ≤ length c.entries
-  pub alone : HasNoHole (take at c.entries) ⊎ AlwaysValid (laws_entries (take at c.entries))
+  pub alone : CanStandAlone (take at c.entries)
 
 -- the context of the entries before the place, with the universes that they use; the next level variable is one above the
 -- greatest
@@ -28,11 +28,6 @@ front_of c at = record {
   universes = universes_used (take at c.entries) c.universes;
   levels = entries_bound (laws_entries (take at c.entries));
 }
-
--- no named entry stands behind a hole
-abbrev pub HasHolesLast : List Item → Type 0
-HasHolesLast [] = Unit {0}
-HasHolesLast (e ∷ es) = (IsNoHole e.kind ⊎ (names_of es ≡ [])) × HasHolesLast es
 
 -- one above the greatest level variable of the universes, and of entries and universes
 abbrev pub universes_bound : List Universe → ℕ
@@ -51,6 +46,8 @@ pub record CanBeContext (es : List Item) (us : List Universe) : Type 0 where
   pub numbers : HaveDistinctNumbers es
   pub kinds : All IsEntry es
   pub holes : HasHolesLast es
+  pub small : All IsSmallEntry es
+  pub universes_differ : Differ (map (λ u. u.variable) us)
   pub few_entries : length es ≤ 65536
   pub few_levels : levels_named es us ≤ 1048576
 

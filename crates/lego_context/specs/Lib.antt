@@ -5,6 +5,7 @@ pub mod Causes
 pub mod Changes
 pub mod Calls
 pub mod Settling
+pub mod Typed
 pub mod Forgetting
 pub mod Cutting
 pub mod private

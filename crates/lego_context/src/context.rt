@@ -2,11 +2,11 @@
 //! variables.
 ghost use Rattle.std.specs.Prelude.{◌≡◌, ◌≤◌, length, slice_get};
 ghost use Rattle.std.specs.Option.{option_copied};
-ghost use Rattle.lego_term.specs.BodyMap.{bodies_in};
+ghost use Rattle.lego_term.specs.BodyMap.{bodies_in, AreClosed};
 ghost use Rattle.lego_laws.specs.Entries.{core_bodies};
 ghost use Rattle.lego_inference.specs.Entries.{laws_entries};
 ghost use Rattle.lego_context.specs.Entries.{position_of, place_of_number};
-ghost use Rattle.lego_context.specs.Contexts.{IsContext, HoldsByLuosRules, empty};
+ghost use Rattle.lego_context.specs.Contexts.{IsContext, HoldsByLuosRules, AreOverFronts, empty};
 
 mod adding;
 mod assuming;
@@ -24,6 +24,7 @@ use lego_level::Graph;
 use lego_term::Bodies;
 use std::alloc::Global;
 use std::marker::Model;
+pub use typing::Settled;
 
 /// A list of entries, the oldest first, that is valid by the rules wherever the constraints kept
 /// with the entries are satisfied, as some values up to 1,000,000 do. So is each front of it up to
@@ -73,11 +74,12 @@ impl Context {
         }
     }
 
-    /// How many entries there are.
+    /// How many entries there are. Each entry's type and body name only entries before it.
     pub fn len(&self) -> usize
         ensures exact { result ≡ length self.now.entries }
         ensures context { IsContext self.now }
         ensures pure { HoldsByLuosRules self.now }
+        ensures named { AreOverFronts self.now }
     {
         self.signature.len()
     }
@@ -110,9 +112,10 @@ impl Context {
         self.signature.position(number)
     }
 
-    /// The bodies of the entries that have one.
+    /// The bodies of the entries that have one. They have no loose variable.
     pub fn bodies(&self) -> &Bodies
-        ensures { bodies_in result.now ≡ core_bodies (laws_entries self.now.entries) }
+        ensures exact { bodies_in result.now ≡ core_bodies (laws_entries self.now.entries) }
+        ensures closed { AreClosed result.now }
     {
         self.signature.bodies()
     }

@@ -7,4 +7,4 @@ mod context;
 mod numbers;
 mod variables;
 
-pub use context::Context;
+pub use context::{Context, Settled};

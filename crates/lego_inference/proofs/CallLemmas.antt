@@ -6,19 +6,21 @@ use Rattle.lego_term.specs.declared.weight.Extent.{Extent}
 use Rattle.lego_term.specs.Trees.{Core}
 use Rattle.lego_term.specs.Weight.{IsMeasured}
 use Rattle.lego_laws.specs.Entries.{Entry}
-use Rattle.lego_laws.specs.Places.{Task, Site, behind}
+use Rattle.lego_laws.specs.Places.{Task, Site, behind, RuleTypeAt}
+use Rattle.lego_laws.specs.RuleTypes.{nodes}
 use Rattle.lego_level.specs.declared.constraint.Constraint.{Constraint}
 use Rattle.lego_inference.specs.declared.entry.Entry.{Entry as Item}
 use Rattle.lego_inference.specs.declared.entry.Judged.{Judged}
 use Rattle.lego_inference.specs.declared.locals.Local.{Local}
 use Rattle.lego_inference.specs.Entries.{laws_entries, AreClosedEntries}
-use Rattle.lego_inference.specs.Locals.{site_of}
+use Rattle.lego_inference.specs.Locals.{site_of, types_of, IsOver}
 use Rattle.lego_inference.specs.Calls.{AreHeld, IsTermOver}
 use Rattle.lego_inference.specs.Causes.{IsWhole, TooLargeCause}
 use Rattle.lego_inference.specs.Failures.{TypeFails}
 use Rattle.lego_inference.specs.private.Faults.{of_term}
 use Rattle.lego_inference.specs.private.Judging.{IsReady}
 use Rattle.lego_inference.proofs.LocalLemmas.{length-map}
+use Rattle.lego_inference.proofs.OverLemmas.{rule_type_over}
 
 pub ready_whole : (es : List Item) (locals : List Local) (levels : ℕ) (m : Core) (x : Extent) → AreClosedEntries (laws_entries es) → AreHeld es locals levels → IsTermOver es locals levels m → IsMeasured m (Ok x) → IsReady (laws_entries es) (site_of locals levels) m
 ready_whole es locals levels m x closed held over measured =
@@ -30,6 +32,10 @@ ready_whole es locals levels m x closed held over measured =
       few = omega (arith, length-map (λ (z : Local). z.ty) locals);
       over = over;
     }
+
+pub type_over : (es : List Item) (locals : List Local) (levels : ℕ) (m a : Core) (x : Extent) → AreClosedEntries (laws_entries es) → AreHeld es locals levels → IsTermOver es locals levels m → IsMeasured m (Ok x) → RuleTypeAt (laws_entries es) (site_of locals levels) m a → IsOver (laws_entries es) (types_of locals) (levels + nodes m) a
+type_over es locals levels m a x closed held over measured rule =
+    rule_type_over (laws_entries es) (site_of locals levels) m a held.entries held.types held.named_entries held.named_types (ready_whole es locals levels m x closed held over measured) rule
 
 pub measured_fails : (limit : ℕ) (t : Task) (u : Core) (fault : TermFault) → IsWhole t u → IsMeasured u (Err fault) → TypeFails limit t (of_term fault)
 measured_fails limit t u (TooLarge size depth) whole h =

@@ -1,5 +1,7 @@
-pub mod LeafLemmas
+pub mod PartLemmas
+pub mod RuleTypeParts
 pub mod ReadyLemmas
+pub mod OverLemmas
 pub mod PlaceLemmas
 pub mod ShapeLemmas
 pub mod MadeLemmas

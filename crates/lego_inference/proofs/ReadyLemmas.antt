@@ -14,7 +14,7 @@ use Rattle.lego_laws.proofs.lemmas.principal.SolvedCores.{heights, positive}
 use Rattle.lego_laws.proofs.lemmas.inference.LevelsWithin.{levels-instantiate}
 use Rattle.lego_inference.specs.Locals.{NamesEntries}
 use Rattle.lego_inference.specs.private.Judging.{IsReady}
-use Rattle.lego_inference.proofs.LeafLemmas.{leaves-instantiate}
+use Rattle.lego_inference.proofs.PartLemmas.{parts-instantiate}
 
 -- the site from another node on, and the same under a binder
 abbrev pub from_node : Site → ℕ → Site
@@ -41,24 +41,24 @@ smaller_under {s = s} first le r h names la l b =
 
 -- each part of a term that is ready is ready where it stands
 pub ready_part : {es : List Entry} {s s' : Site} {m m' : Core} {w w' : Want} {i : ℕ} → IsReady es s m → Part es s m w i s' m' w' → IsReady es s' m'
-ready_part {s = s} r (Part.pi_domain {x = x} {a = a} {b = b}) = smaller (s.first + 1) (omega arith) r (omega (arith, heights.pi x a b)) r.over.names.0 (omega arith) (omega arith)
-ready_part {s = s} r (Part.pi_body {x = x} {a = a} {b = b}) = smaller_under (s.first + 1 + nodes a) (omega arith) r (omega (arith, heights.pi x a b)) r.over.names.1 (omega arith) (omega arith) (omega arith)
-ready_part {s = s} r (Part.lam_domain {x = x} {a = a} {m = b}) = smaller s.first (omega arith) r (omega (arith, heights.lam x a b)) r.over.names.0 (omega arith) (omega arith)
-ready_part {s = s} r (Part.lam_body {x = x} {a = a} {m = b}) = smaller_under (s.first + nodes a) (omega arith) r (omega (arith, heights.lam x a b)) r.over.names.1 (omega arith) (omega arith) (omega arith)
+ready_part {s = s} r (Part.pi_domain {x = x} {a = a} {b = b}) = smaller (s.first + 1) (omega arith) r (omega (arith, heights.pi x a b)) r.over.names.1 (omega arith) (omega arith)
+ready_part {s = s} r (Part.pi_body {x = x} {a = a} {b = b}) = smaller_under (s.first + 1 + nodes a) (omega arith) r (omega (arith, heights.pi x a b)) r.over.names.2 (omega arith) (omega arith) (omega arith)
+ready_part {s = s} r (Part.lam_domain {x = x} {a = a} {m = b}) = smaller s.first (omega arith) r (omega (arith, heights.lam x a b)) r.over.names.1 (omega arith) (omega arith)
+ready_part {s = s} r (Part.lam_body {x = x} {a = a} {m = b}) = smaller_under (s.first + nodes a) (omega arith) r (omega (arith, heights.lam x a b)) r.over.names.2 (omega arith) (omega arith) (omega arith)
 ready_part {s = s} r (Part.function {k = k} {m = m} {n = n}) = smaller s.first (omega arith) r (omega (arith, heights.app k m n)) r.over.names.0 (omega arith) (omega arith)
 ready_part {s = s} r (Part.argument {k = k} {m = m} {n = n} t h) = smaller (s.first + nodes m) (omega arith) r (omega (arith, heights.app k m n)) r.over.names.1 (omega arith) (omega arith)
-ready_part {s = s} r (Part.sigma_domain {x = x} {a = a} {b = b}) = smaller (s.first + 1) (omega arith) r (omega (arith, heights.sigma x a b)) r.over.names.0 (omega arith) (omega arith)
-ready_part {s = s} r (Part.sigma_body {x = x} {a = a} {b = b}) = smaller_under (s.first + 1 + nodes a) (omega arith) r (omega (arith, heights.sigma x a b)) r.over.names.1 (omega arith) (omega arith) (omega arith)
-ready_part {s = s} r (Part.pair_domain {x = x} {a = a} {b = b} {m = m} {n = n}) = smaller s.first (omega arith) r (omega (arith, heights.pair x a b m n)) r.over.names.0 (omega arith) (omega arith)
-ready_part {s = s} r (Part.pair_body {x = x} {a = a} {b = b} {m = m} {n = n}) = smaller_under (s.first + nodes a) (omega arith) r (omega (arith, heights.pair x a b m n)) r.over.names.1 (omega arith) (omega arith) (omega arith)
-ready_part {s = s} r (Part.pair_first {x = x} {a = a} {b = b} {m = m} {n = n}) = smaller (s.first + (nodes a + nodes b)) (omega arith) r (omega (arith, heights.pair x a b m n)) r.over.names.2 (omega arith) (omega arith)
-ready_part {s = s} r (Part.pair_second {x = x} {a = a} {b = b} {m = m} {n = n}) = smaller (s.first + (nodes a + nodes b + nodes m)) (omega arith) r (omega (arith, heights.pair x a b m n)) r.over.names.3 (omega arith) (omega arith)
+ready_part {s = s} r (Part.sigma_domain {x = x} {a = a} {b = b}) = smaller (s.first + 1) (omega arith) r (omega (arith, heights.sigma x a b)) r.over.names.1 (omega arith) (omega arith)
+ready_part {s = s} r (Part.sigma_body {x = x} {a = a} {b = b}) = smaller_under (s.first + 1 + nodes a) (omega arith) r (omega (arith, heights.sigma x a b)) r.over.names.2 (omega arith) (omega arith) (omega arith)
+ready_part {s = s} r (Part.pair_domain {x = x} {a = a} {b = b} {m = m} {n = n}) = smaller s.first (omega arith) r (omega (arith, heights.pair x a b m n)) r.over.names.1 (omega arith) (omega arith)
+ready_part {s = s} r (Part.pair_body {x = x} {a = a} {b = b} {m = m} {n = n}) = smaller_under (s.first + nodes a) (omega arith) r (omega (arith, heights.pair x a b m n)) r.over.names.2 (omega arith) (omega arith) (omega arith)
+ready_part {s = s} r (Part.pair_first {x = x} {a = a} {b = b} {m = m} {n = n}) = smaller (s.first + (nodes a + nodes b)) (omega arith) r (omega (arith, heights.pair x a b m n)) r.over.names.3 (omega arith) (omega arith)
+ready_part {s = s} r (Part.pair_second {x = x} {a = a} {b = b} {m = m} {n = n}) = smaller (s.first + (nodes a + nodes b + nodes m)) (omega arith) r (omega (arith, heights.pair x a b m n)) r.over.names.4 (omega arith) (omega arith)
 ready_part {s = s} r (Part.fst_operand {m = m}) = smaller s.first (omega arith) r (omega (arith, heights.fst m)) r.over.names (omega arith) (omega arith)
 ready_part {s = s} r (Part.snd_operand {m = m}) = smaller s.first (omega arith) r (omega (arith, heights.snd m)) r.over.names (omega arith) (omega arith)
-ready_part {s = s} r (Part.local_value {x = x} {m = m} {n = n}) = smaller s.first (omega arith) r (omega (arith, heights.local x m n)) r.over.names.0 (omega arith) (omega arith)
+ready_part {s = s} r (Part.local_value {x = x} {m = m} {n = n}) = smaller s.first (omega arith) r (omega (arith, heights.local x m n)) r.over.names.1 (omega arith) (omega arith)
 ready_part {es} {s} r (Part.local_body {x = x} {m = m} {n = n}) =
     smaller (s.first + nodes m) (omega arith) r (omega (arith, heights.local x m n))
-    (leaves-instantiate (λ k. IsSome (entry_of es k)) (λ l. l.plus ≤ 1000000) n m r.over.names.1 r.over.names.0) (omega (arith, loose-instantiate n m)) (omega (arith, levels-instantiate n m))
+    (parts-instantiate (λ kind x. Unit {0}) (λ k. IsSome (entry_of es k)) (λ l. l.plus ≤ 1000000) n m r.over.names.2 r.over.names.1) (omega (arith, loose-instantiate n m)) (omega (arith, levels-instantiate n m))
 
 -- the loose variables of a rule type are locals
 pub loose_of : {es : List Entry} {s : Site} {m a : Core} → IsReady es s m → RuleTypeAt es s m a → loose a ≤ length s.types

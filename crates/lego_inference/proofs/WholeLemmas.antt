@@ -20,6 +20,7 @@ use Rattle.lego_compare.specs.Answers.{IsDecidedBy}
 use Rattle.lego_inference.specs.declared.entry.Judged.{Judged}
 use Rattle.lego_inference.specs.declared.fault.TypeFault.{TypeFault}
 use Rattle.lego_inference.specs.Causes.{IsWhole, AreMeasured}
+use Rattle.lego_inference.specs.Locals.{IsOver}
 use Rattle.lego_inference.specs.Failures.{TypeFails}
 use Rattle.lego_inference.specs.Inferred.{AreGathered, IsInferred, IsInferredType, IsChecked, IsCheckedWritten}
 use Rattle.lego_inference.specs.private.Judging.{Root, task_on, Inferred, IsTypeBy, HasStated, IsBegun, Fails, FailsAt, PairFails}
@@ -101,20 +102,20 @@ module _ (es : List Entry) (place : Place) (s : Site) (m : Core) where
   only_core : (aim : Aim) → ((a : Core) → aim ≡ OfWrittenType a → ⊥) → IsShaped es s m (want_of aim) → HasShape (task es s m aim)
   only_core aim none shaped = record { core = shaped; written = λ a e. absurd (none a e) }
 
-  judged_by : (aim : Aim) (k : List Constraint) (a : Core) → Inferred es place s m k a → allowance (task es s m aim) ≡ nodes m → s.first + nodes m ≤ 1048576 → HasShape (task es s m aim) → AreMeasured (task es s m aim) → IsInferred (task es s m aim) place (record { ty = a; constraints = k; levels = s.first + nodes m })
-  judged_by aim k a j count few shape measured = record { rule = j.rule; fits = j.fits; gathered = gathered aim k a j count few shape measured }
+  judged_by : (aim : Aim) (k : List Constraint) (a : Core) → Inferred es place s m k a → IsOver es s.types (s.first + nodes m) a → allowance (task es s m aim) ≡ nodes m → s.first + nodes m ≤ 1048576 → HasShape (task es s m aim) → AreMeasured (task es s m aim) → IsInferred (task es s m aim) place (record { ty = a; constraints = k; levels = s.first + nodes m })
+  judged_by aim k a j over count few shape measured = record { rule = j.rule; over = over; fits = j.fits; gathered = gathered aim k a j count few shape measured }
 
   -- the answered level variables are within the limit
   few_of : {judged : Judged} {a : Core} {k : List Constraint} {n : ℕ} → judged.levels ≤ 1048576 → judged ≡ record { ty = a; constraints = k; levels = n } → n ≤ 1048576
   few_of few e = subst (λ (n : ℕ). n ≤ 1048576) (ap (λ (j : Judged). j.levels) e) few
 
-  pub inferred_whole : (k : List Constraint) (a : Core) (judged : Judged) → judged.levels ≤ 1048576 → AreMeasured (task es s m AnyType) → Inferred es place s m k a → judged ≡ record { ty = a; constraints = k; levels = s.first + nodes m } → IsInferred (task es s m AnyType) place judged
-  inferred_whole k a judged few measured j e = subst (IsInferred (task es s m AnyType) place) (sym e) (judged_by AnyType k a j (omega arith) (few_of few e) (only_core AnyType (λ b f. cc) (shaped_nothing j.parts)) measured)
+  pub inferred_whole : (k : List Constraint) (a : Core) (judged : Judged) → judged.levels ≤ 1048576 → AreMeasured (task es s m AnyType) → Inferred es place s m k a → IsOver es s.types (s.first + nodes m) a → judged ≡ record { ty = a; constraints = k; levels = s.first + nodes m } → IsInferred (task es s m AnyType) place judged
+  inferred_whole k a judged few measured j over e = subst (IsInferred (task es s m AnyType) place) (sym e) (judged_by AnyType k a j over (omega arith) (few_of few e) (only_core AnyType (λ b f. cc) (shaped_nothing j.parts)) measured)
 
-  pub type_whole : (k : List Constraint) (a : Core) (sort : Option Level) (judged : Judged) → judged.levels ≤ 1048576 → AreMeasured (task es s m BeAType) → Inferred es place s m k a → HeadForm (core_bodies es) a (sort_term sort) → judged ≡ record { ty = a; constraints = k; levels = s.first + nodes m } → IsInferredType (task es s m BeAType) place judged
-  type_whole k a sort judged few measured j head e =
+  pub type_whole : (k : List Constraint) (a : Core) (sort : Option Level) (judged : Judged) → judged.levels ≤ 1048576 → AreMeasured (task es s m BeAType) → Inferred es place s m k a → IsOver es s.types (s.first + nodes m) a → HeadForm (core_bodies es) a (sort_term sort) → judged ≡ record { ty = a; constraints = k; levels = s.first + nodes m } → IsInferredType (task es s m BeAType) place judged
+  type_whole k a sort judged few measured j over head e =
       subst (IsInferredType (task es s m BeAType) place) (sym e) (record {
-        inferred = judged_by BeAType k a j (omega arith) (few_of few e) (only_core BeAType (λ b f. cc) (shaped_head j.parts j.rule head WantsHead.a_type (sort_fulfils sort))) measured;
+        inferred = judged_by BeAType k a j over (omega arith) (few_of few e) (only_core BeAType (λ b f. cc) (shaped_head j.parts j.rule head WantsHead.a_type (sort_fulfils sort))) measured;
         sort = sort;
         head = head;
       })

@@ -1,5 +1,6 @@
 -- What the calls ask, and what they answer.
 use Rattle.std.specs.Prelude.{ℕ, ◌≤◌, List, length, Result, Ok, Err}
+use Rattle.std.specs.List.{AllByRecursion}
 use Rattle.lego_term.specs.Trees.{Core}
 use Rattle.lego_laws.specs.Places.{Task, Aim, AnyType, BeAType, OfType, OfWrittenType}
 use Rattle.lego_laws.specs.Principal.{entries_bound}
@@ -10,15 +11,18 @@ use Rattle.lego_inference.specs.declared.entry.At.{At}
 use Rattle.lego_inference.specs.declared.entry.Judged.{Judged}
 use Rattle.lego_inference.specs.declared.fault.TypeFault.{TypeFault}
 use Rattle.lego_inference.specs.declared.locals.Local.{Local}
-use Rattle.lego_inference.specs.Entries.{laws_entries}
-use Rattle.lego_inference.specs.Locals.{types_of, site_of, IsOver}
+use Rattle.lego_inference.specs.Entries.{laws_entries, HoldsInEntries}
+use Rattle.lego_inference.specs.Locals.{types_of, site_of, NamesEntries, IsOver}
 use Rattle.lego_inference.specs.Failures.{TypeFails}
 use Rattle.lego_inference.specs.Inferred.{IsInferred, IsInferredType, IsChecked, IsCheckedWritten}
 
--- the level variables below a number are held: those of the entries and of the local types, of which each is over those outside it
+-- The level variables below a number are held: those of the entries and of the local types, of which each is over those outside
+-- it. Entries and local types name only entries of the list, and their levels are small.
 pub record AreHeld (es : List Item) (locals : List Local) (levels : ℕ) : Type 0 where
   pub entries : entries_bound (laws_entries es) ≤ levels
   pub types : locals_bound (types_of locals) ≤ levels
+  pub named_entries : HoldsInEntries (NamesEntries (laws_entries es)) (laws_entries es)
+  pub named_types : AllByRecursion (NamesEntries (laws_entries es)) (types_of locals)
   pub scoped : AreScoped (types_of locals)
   pub few_locals : length locals ≤ 61536
   pub few_levels : levels ≤ 1048576

@@ -1,5 +1,6 @@
 -- The entries of a signature, and the same as the laws see them.
-use Rattle.std.specs.Prelude.{ℕ, List, map, Option, Some, None}
+use Rattle.std.specs.Prelude.{ℕ, List, map, Option, Some, None, IfSome}
+use Rattle.std.specs.List.{AllByRecursion}
 use Rattle.std.specs.FinMap.{insert}
 use Rattle.lego_term.specs.Trees.{Core}
 use Rattle.lego_term.specs.BodyMap.{BodyMap}
@@ -20,6 +21,10 @@ laws_entries es = map laws_entry es
 pub record AreClosedEntries (es : List Entry) : Type 0 where
   pub types : AreClosed (core_types es)
   pub bodies : AreClosed (core_bodies es)
+
+-- so of each type and each body of the entries
+abbrev pub HoldsInEntries : (Core → Type 0) → List Entry → Type 0
+HoldsInEntries P es = AllByRecursion (λ e. P e.ty × IfSome e.body P) es
 
 -- the numbers of the entries, in order
 abbrev pub numbers_of : List Item → List ℕ

@@ -14,6 +14,7 @@ use Rattle.lego_laws.specs.Ranges.{Context, FitsBetween, FitsWantedBetween, Fits
 use Rattle.lego_level.specs.declared.constraint.Constraint.{Constraint}
 use Rattle.lego_level.specs.Graphs.{pairs_of}
 use Rattle.lego_inference.specs.declared.entry.Judged.{Judged}
+use Rattle.lego_inference.specs.Locals.{IsOver}
 use Rattle.lego_inference.specs.Causes.{AreMeasured}
 
 -- The constraints that a check gathers: each is one of the core, at the place of the check; the core has its shape, and is within
@@ -36,9 +37,10 @@ FitsRuleType t judged =
     (held : List LevelPair) → IsContextOf t held
     → FitsBetween t.site.first judged.levels (core_types t.entries) (core_bodies t.entries) held t.site.types t.core judged.ty (pairs_of judged.constraints)
 
--- the core has the answered type, which is its rule type
+-- the core has the answered type, which is its rule type, and is over the entries, the locals and the level variables answered
 pub record IsInferred (t : Task) (place : Place) (judged : Judged) : Type 0 where
   pub rule : RuleTypeAt t.entries t.site t.core judged.ty
+  pub over : IsOver t.entries t.site.types judged.levels judged.ty
   pub fits : FitsRuleType t judged
   pub gathered : AreGathered t place judged.constraints judged.levels
 

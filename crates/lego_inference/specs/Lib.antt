@@ -1,4 +1,5 @@
 pub mod Entries
+pub mod Binders
 pub mod Locals
 pub mod Causes
 pub mod Failures

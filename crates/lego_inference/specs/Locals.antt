@@ -1,6 +1,6 @@
 -- Local variables, the innermost first, and the terms that are over a signature and locals.
 use Rattle.std.specs.Prelude.{ℕ, ◌≤◌, List, map, reverse, length, IsSome}
-use Rattle.lego_term.specs.Trees.{Core, Var, Const, Prop, Univ, Pi, Lam, App, Sigma, Pair, Fst, Snd, Let, loose}
+use Rattle.lego_term.specs.Trees.{Core, loose}
 use Rattle.lego_term.specs.declared.level.Level.{Level}
 use Rattle.lego_term.specs.declared.binder.Binder.{Binder}
 use Rattle.lego_term.specs.declared.seen.Seen.{Seen}
@@ -8,6 +8,7 @@ use Rattle.lego_laws.specs.Entries.{Entry, entry_of}
 use Rattle.lego_laws.specs.Places.{Site}
 use Rattle.lego_laws.specs.Ranges.{levels_bound}
 use Rattle.lego_inference.specs.declared.locals.Local.{Local}
+use Rattle.lego_inference.specs.Binders.{EachPart}
 
 abbrev pub types_of : List Local → List Core
 types_of locals = map (λ l. l.ty) locals
@@ -28,18 +29,7 @@ seen_at s m = seen_under s.binders m
 
 -- each constant and each level of the tree is so
 abbrev pub EachLeaf : (constant : ℕ → Type 0) → (level : Level → Type 0) → Core → Type 0
-EachLeaf c l (Var i) = Unit {0}
-EachLeaf c l (Const k) = c k
-EachLeaf c l Prop = Unit {0}
-EachLeaf c l (Univ u) = l u
-EachLeaf c l (Pi x a b) = EachLeaf c l a × EachLeaf c l b
-EachLeaf c l (Lam x a m) = EachLeaf c l a × EachLeaf c l m
-EachLeaf c l (App k m n) = EachLeaf c l m × EachLeaf c l n
-EachLeaf c l (Sigma x a b) = EachLeaf c l a × EachLeaf c l b
-EachLeaf c l (Pair x a b m n) = EachLeaf c l a × EachLeaf c l b × EachLeaf c l m × EachLeaf c l n
-EachLeaf c l (Fst m) = EachLeaf c l m
-EachLeaf c l (Snd m) = EachLeaf c l m
-EachLeaf c l (Let x m n) = EachLeaf c l m × EachLeaf c l n
+EachLeaf c l t = EachPart (λ kind x. Unit {0}) c l t
 
 -- each constant has an entry, and each level is a number or a variable plus a number, which is at most 1,000,000
 abbrev pub NamesEntries : List Entry → Core → Type 0

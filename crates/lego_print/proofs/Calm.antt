@@ -20,7 +20,7 @@ use Rattle.lego_print.specs.declared.shown.Shown.{Shown}
 use Rattle.lego_print.specs.declared.shown.Shown.TheVariants.{Least, Hidden}
 use Rattle.lego_print.specs.Names.{Scope}
 use Rattle.lego_print.specs.Texts.{term_text, level_text, local_text, constant_text, binder_name, bound, unbound, is_arrow, is_unused, sigma_rank, sign_text, argument_sign, ranked}
-use Rattle.lego_print.specs.ReadBack.{IsLeast, IsHeldText, IsEntryText, IsBinderText, IsReadable}
+use Rattle.lego_print.specs.ReadBack.{IsLeast, IsBinderText, IsReadable}
 use Rattle.lego_print.specs.private.Parts.{sigma_text, product_text, lambda_text, application_text, local_definition_text}
 use Rattle.lego_print.proofs.ReadForms.{name_form}
 use Rattle.lego_print.proofs.ReadTokens.{decimal_text}

@@ -19,3 +19,8 @@ pub mod Copies
 pub mod UniverseLines
 pub mod ReadDevelopments
 pub mod DevelopmentLemmas
+pub mod MoreNames
+pub mod Showing
+pub mod ShowDevelopments
+pub mod LimitLemmas
+pub mod ClosedEntries

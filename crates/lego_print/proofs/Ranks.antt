@@ -1,5 +1,5 @@
 -- Parentheses around a text whose rank is below the wanted one.
-use Rattle.std.proofs.Common.{◌≡◌, ℕ, Bool, true, false, if◌then◌else◌, List, [], ◌++◌, append-nil, refl, sym, ap, ◌∙◌, append_assoc}
+use Rattle.std.proofs.Common.{◌≡◌, ℕ, Bool, true, false, if◌then◌else◌, List, [], ◌++◌, append-nil, refl, ap, ◌∙◌, append_assoc}
 use Rattle.std.specs.Prelude.{codes, nat_lt}
 use Rattle.lego_term.specs.Trees.{Core, Var, Const, Prop, Univ, Pi, Lam, App, Sigma, Pair, Fst, Snd, Let}
 use Rattle.lego_print.specs.declared.shown.Shown.{Shown}

@@ -1,6 +1,6 @@
 -- The commands of a development are read as declarations.
-use Rattle.std.proofs.Common.{◌≡◌, ℕ, suc, Bool, true, ◌&&◌, List, [], ◌∷◌, ◌++◌, map, Option, Some, None, option_map, refl, sym, ap, subst, append_assoc}
-use Rattle.std.specs.Prelude.{codes, IfSome, slice_get, unwrap_or}
+use Rattle.std.proofs.Common.{◌≡◌, ℕ, true, List, [], ◌∷◌, ◌++◌, Option, Some, None, option_map, refl, sym, ap, subst, append_assoc}
+use Rattle.std.specs.Prelude.{IfSome}
 use Rattle.lego_base.specs.declared.place.Place.{Place}
 use Rattle.lego_term.specs.Levels.{Assignment}
 use Rattle.lego_term.specs.Trees.{Core}
@@ -8,23 +8,23 @@ use Rattle.lego_term.specs.declared.binder.Mark.{Mark}
 use Rattle.lego_term.specs.declared.binder.Mark.TheVariants.{Plain, Implicit}
 use Rattle.lego_laws.specs.Entries.{Entry}
 use Rattle.lego_lexer.specs.Bytes.{Gap}
-use Rattle.lego_lexer.specs.Tokens.{Lexeme, Name, OfSymbol, symbol_text, token_of, Point, Placed, Reads as Lexes, start}
+use Rattle.lego_lexer.specs.Tokens.{Name, OfSymbol, symbol_text, Placed, Reads as Lexes, start}
 use Rattle.lego_lexer.specs.declared.token.Symbol.TheVariants.{OpenSquare, CloseSquare, Colon, Equals, Semicolon}
 use Rattle.lego_lexer.proofs.LexLemmas.{reads_join}
-use Rattle.lego_grammar.specs.Grammar.{Names, Nested, Item, Term, item, symbol, token, sign, NameList, ReadsBinding, ReadsBindings, ReadsAct, ReadsCommand}
-use Rattle.lego_grammar.specs.Written.{Written, Assumed, Defined, WrittenBinding, WrittenAct, WrittenCommand}
+use Rattle.lego_grammar.specs.Grammar.{Names, Nested, Item, Term, symbol, token, sign, NameList, ReadsBinding, ReadsBindings, ReadsAct, ReadsCommand}
+use Rattle.lego_grammar.specs.Written.{Assumed, Defined, WrittenBinding, WrittenAct, WrittenCommand}
 use Rattle.lego_grammar.specs.Scopes.{no_variables}
 use Rattle.lego_grammar.specs.Reading.{ReadsExplicitly}
-use Rattle.lego_grammar.specs.Denotes.{MarkedTerm, grammar_tokens, IsWrittenAs, Declaration, declaration_of, ReadsBody}
+use Rattle.lego_grammar.specs.Denotes.{MarkedTerm, IsWrittenAs, Declaration, declaration_of, ReadsBody}
 use Rattle.lego_grammar.specs.Developments.{is_printable, is_printable_declaration}
 use Rattle.lego_print.specs.declared.shown.Shown.{Shown}
-use Rattle.lego_print.specs.Names.{Scope, name_text}
+use Rattle.lego_print.specs.Names.{Scope}
 use Rattle.lego_print.specs.Texts.{term_text}
 use Rattle.lego_print.specs.Entries.{declared}
 use Rattle.lego_print.specs.ReadBack.{IsLeast, marked, IsHeldText, IsReadable}
 use Rattle.lego_print.proofs.Renumbered.{renumbered}
 use Rattle.lego_print.proofs.ReadLocals.{AreLocals}
-use Rattle.lego_print.proofs.ReadForms.{Both, name_is, may_sign}
+use Rattle.lego_print.proofs.ReadForms.{name_is, may_sign}
 use Rattle.lego_print.proofs.ReadParts.{CanRead, both_true}
 use Rattle.lego_print.proofs.ReadTerms.{read_term}
 use Rattle.lego_print.proofs.ReadTokens.{here, after, same_join, stops_at, symbol_stops, symbol_stands, lex_token, name_stands}

@@ -1,5 +1,5 @@
 -- A printed development is read as its entries.
-use Rattle.std.proofs.Common.{◌≡◌, ℕ, zero, suc, ◌+◌, Bool, true, List, [], ◌∷◌, ◌++◌, length, map, All, Option, Some, None, option_map, refl, sym, ap, ◌∙◌, subst, append_assoc, append-nil, arith}
+use Rattle.std.proofs.Common.{◌≡◌, ℕ, suc, ◌+◌, true, List, [], ◌∷◌, ◌++◌, length, map, All, Option, Some, None, option_map, refl, sym, ap, ◌∙◌, subst, append_assoc, arith}
 use Rattle.std.specs.Prelude.{IfSome, slice_get, unwrap_or}
 use Rattle.std.proofs.lemmas.List.Elements.{All-nil, All-cons}
 use Rattle.lego_base.specs.declared.place.Place.{Place}
@@ -9,28 +9,28 @@ use Rattle.lego_term.specs.Trees.{Core}
 use Rattle.lego_term.specs.declared.binder.Mark.{Mark}
 use Rattle.lego_term.specs.declared.binder.Mark.TheVariants.{Plain, Implicit}
 use Rattle.std.proofs.lemmas.Option.{same_Some}
-use Rattle.lego_laws.specs.Entries.{Entry, entry_of}
+use Rattle.lego_laws.specs.Entries.{Entry}
 use Rattle.lego_lexer.specs.Bytes.{Gap, BeginsToken}
 use Rattle.lego_lexer.specs.Commands.{Begins, CommandText, Cuts, Whole}
-use Rattle.lego_lexer.specs.Tokens.{Name, OfWord, OfSymbol, Reads as Lexes, Placed, start, token_of}
+use Rattle.lego_lexer.specs.Tokens.{OfWord, OfSymbol, Reads as Lexes, start}
 use Rattle.lego_lexer.specs.declared.token.Word.TheVariants as Word
 use Rattle.lego_lexer.specs.declared.token.Symbol.TheVariants.{Semicolon}
 use Rattle.lego_grammar.specs.Grammar.{Names, LoneWord, ReadsAct, ReadsCommand, word, symbol}
 use Rattle.lego_grammar.specs.Scopes.{entry_named}
 use Rattle.lego_grammar.specs.Written.{WrittenAct, WrittenCommand}
-use Rattle.lego_grammar.specs.Denotes.{IsWrittenAs, AreWrittenAs, Declaration, AreDeclarations, Declares, ReadsDeclarations, declared_entry, Content, MarkedTerm, entry_place, contents_at}
+use Rattle.lego_grammar.specs.Denotes.{IsWrittenAs, AreWrittenAs, Declaration, AreDeclarations, Declares, ReadsDeclarations, declared_entry, Content, MarkedTerm, entry_place}
 use Rattle.lego_grammar.specs.Developments.{is_printable_declaration}
 use Rattle.lego_print.specs.declared.shown.Shown.{Shown}
 use Rattle.lego_print.specs.Names.{Scope, name_text}
 use Rattle.lego_print.specs.Texts.{term_text, outer_scope}
-use Rattle.lego_print.specs.Entries.{declared, entry_name, entry_command}
+use Rattle.lego_print.specs.Entries.{declared, entry_name}
 use Rattle.lego_print.specs.ReadBack.{IsLeast, IsReadable, IsHeldText, marked}
 use Rattle.lego_print.specs.Developments.{with_entry, entry_commands, universe_lines, occurs_in}
-use Rattle.lego_print.specs.Denoted.{IsReadableEntry, AreReadable, IsRead, PrintedDevelopmentsReadBack}
-use Rattle.lego_print.proofs.Renumbered.{renumber, renumbered, settled, moved, IsFoundAs}
+use Rattle.lego_print.specs.Denoted.{AreReadable, PrintedDevelopmentsReadBack}
+use Rattle.lego_print.proofs.Renumbered.{renumber, renumbered, settled, moved}
 use Rattle.lego_print.proofs.Calm.{Calm, calm_join, calm_name, calm_term, calm_unbroken}
 use Rattle.lego_print.proofs.Copies.{IsCopy, AreCopies, one_more, same_length, copy_named, copy_unnamed, copy_stays, front_named, new_place}
-use Rattle.lego_print.proofs.ReadCommands.{IsCommandRead, entry_body, entry_read}
+use Rattle.lego_print.proofs.ReadCommands.{entry_body, entry_read}
 use Rattle.lego_print.proofs.ReadTokens.{here, after, name_stands, name_text_is, symbol_stands, lex_token, stops_at, begins_there}
 use Rattle.lego_print.proofs.UniverseLines.{listed_gap}
 

@@ -9,7 +9,7 @@ use Rattle.lego_grammar.specs.Scopes.{entry_named}
 use Rattle.lego_grammar.specs.Denotes.{MarkedTerm}
 use Rattle.lego_print.specs.Names.{Scope}
 use Rattle.lego_print.specs.Texts.{bound, unbound, binder_name, is_arrow, is_unused}
-use Rattle.lego_print.specs.ReadBack.{marked, IsEntryText, IsBinderText, IsReadable}
+use Rattle.lego_print.specs.ReadBack.{marked, IsBinderText, IsReadable}
 
 abbrev pub renumber : (ℕ → ℕ) → MarkedTerm → MarkedTerm
 renumber numbers m = replace_constants (λ k. Some (Const (numbers k))) m

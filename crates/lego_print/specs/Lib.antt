@@ -2,9 +2,11 @@ pub mod Names
 pub mod Texts
 pub mod Headings
 pub mod Entries
+pub mod EntryLines
 pub mod ReadBack
 pub mod Refusals
 pub mod Developments
 pub mod Denoted
+pub mod Showable
 pub mod Lines
 pub mod private

@@ -1,11 +1,12 @@
 -- The lines behind the first line of a refusal: those of a cycle of constraints, and those of tries.
-use Rattle.std.specs.Prelude.{ℕ, nat_eq, if◌then◌else◌, List, [], ◌++◌, codes, decimal, Option, Some, None}
+use Rattle.std.specs.Prelude.{ℕ, nat_eq, if◌then◌else◌, List, [], ◌∷◌, ◌++◌, codes, decimal, Option, Some, None}
 use Rattle.lego_base.specs.declared.place.Place.{Place}
 use Rattle.lego_term.specs.declared.level.Level.{Level}
+use Rattle.lego_level.specs.declared.constraint.Constraint.{Constraint}
 use Rattle.lego_print.specs.declared.heading.Heading.{Heading}
 use Rattle.lego_print.specs.declared.lines.Tried.{Tried}
 use Rattle.lego_print.specs.declared.lines.Tried.TheVariants.{Arguments, Hypothesis}
-use Rattle.lego_print.specs.Refusals.{place_text, cause_text}
+use Rattle.lego_print.specs.Refusals.{place_text, cause_text, refusal_text}
 
 -- a number behind `+`, where it isn't 0
 abbrev pub plus_text : ℕ → List ℕ
@@ -25,6 +26,15 @@ origin_text (Some p) = place_text p
 abbrev pub constraint_text : Option Place → Level → Level → List ℕ
 constraint_text place low high =
     codes "  " ++ origin_text place ++ codes ": " ++ bound_text low.base low.plus ++ codes " <= " ++ bound_text high.base high.plus ++ codes "\n"
+
+-- the lines of the constraints of a cycle
+abbrev pub constraint_lines : List Constraint → List ℕ
+constraint_lines [] = []
+constraint_lines (c ∷ cs) = constraint_text c.place c.low c.high ++ constraint_lines cs
+
+-- the first line of a refusal with its end, and the lines of its cycle, if it has one
+abbrev pub refusal_lines : Place → Heading → List ℕ → List Constraint → List ℕ
+refusal_lines p heading details cycle = refusal_text p heading details ++ codes "\n" ++ constraint_lines cycle
 
 -- what was tried: a number of new arguments, or the hypothesis of a name
 abbrev pub tried_text : Tried → List ℕ

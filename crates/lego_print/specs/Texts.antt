@@ -103,3 +103,7 @@ under_all scope xs = fold (λ s (x : Binder). bound s x.name) scope xs
 -- a term under the binders around it
 abbrev pub seen_text : Shown → Scope → Seen → List ℕ
 seen_text levels scope seen = term_text levels (under_all scope seen.under) 0 seen.term
+
+-- a term and its type, each under the binders around it
+abbrev pub typing_text : Shown → Scope → Seen → Seen → List ℕ
+typing_text levels scope m ty = seen_text levels scope m ++ codes " : " ++ seen_text levels scope ty

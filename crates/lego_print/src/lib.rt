@@ -1,13 +1,16 @@
 //! The texts of terms, entries and developments, and the numbers and names of refusals.
 #![tactic(auto)]
 
+mod behind;
 mod development;
 mod entries;
 mod front;
 mod heading;
 mod item;
 mod laws;
+mod limits;
 mod lines;
+mod listing;
 mod locals;
 mod page;
 mod pieces;
@@ -24,11 +27,13 @@ pub use entries::Entries;
 pub use heading::Heading;
 pub use item::Item;
 pub use laws::{
-    printed_developments_read_back, printed_names_are_free, printed_names_are_names,
-    printed_terms_read_back,
+    printed_developments_denote, printed_developments_read_back, printed_names_are_free,
+    printed_names_are_names, printed_terms_read_back, valid_entries_are_closed,
 };
-pub use lines::{Tried, constraint_text, try_text};
+pub use limits::items_are_small;
+pub use lines::{Tried, constraint_text, refusal_lines, try_text};
+pub use listing::entry_lines;
 pub use refusal::{Details, cause_text, details_text, refusal_text};
 pub use shown::Shown;
-pub use text::{entry_command, entry_text, term_text};
+pub use text::{entry_command, entry_text, term_text, typing_text};
 pub use universes::Universe;

@@ -1,11 +1,12 @@
 //! The lines behind the first line of a refusal: those of a cycle of constraints, and of tries.
 ghost use Rattle.std.specs.Prelude.{◌≡◌, ◌++◌, codes, decimal, OnOk, IfOk};
-ghost use Rattle.lego_print.specs.Lines.{plus_text, bound_text, origin_text, constraint_text, tried_text, try_text};
+ghost use Rattle.lego_print.specs.Lines.{plus_text, bound_text, origin_text, constraint_text, constraint_lines, refusal_lines, tried_text, try_text};
 
 use crate::heading::Heading;
 use crate::pieces::{push_counted, push_number, push_place};
-use crate::refusal::push_cause;
+use crate::refusal::{push_cause, push_refusal};
 use lego_base::Place;
+use lego_level::Constraint;
 use lego_term::Level;
 use std::alloc::{AllocError, Global};
 
@@ -50,6 +51,24 @@ fn push_origin(text: &mut Vec<u8>, place: Option<Place>) -> Result<(), AllocErro
     }
 }
 
+/// Adds the line of a constraint of a cycle.
+fn push_constraint(
+    text: &mut Vec<u8>,
+    place: Option<Place>,
+    low: Level,
+    high: Level,
+) -> Result<(), AllocError>
+    ensures { OnOk result (text.new.items ≡ text.old.items ++ constraint_text place low high) }
+{
+    text.extend_from_slice(b"  ")?;
+    push_origin(text, place)?;
+    text.extend_from_slice(b": ")?;
+    push_bound(text, low)?;
+    text.extend_from_slice(b" <= ")?;
+    push_bound(text, high)?;
+    text.extend_from_slice(b"\n")
+}
+
 /// The line of a constraint of a cycle, with its end: its place or `implied`, and its levels.
 pub fn constraint_text(
     alloc: Global,
@@ -59,13 +78,36 @@ pub fn constraint_text(
 ) -> Result<Vec<u8>, AllocError>
     ensures { IfOk result (λ text. text.items ≡ constraint_text place low high) }
 {
-    let mut text = Vec::from_slice(alloc, b"  ")?;
-    push_origin(&mut text, place)?;
-    text.extend_from_slice(b": ")?;
-    push_bound(&mut text, low)?;
-    text.extend_from_slice(b" <= ")?;
-    push_bound(&mut text, high)?;
+    let mut text = Vec::new(alloc);
+    push_constraint(&mut text, place, low, high)?;
+    Ok(text)
+}
+
+/// Adds the lines of the constraints of a cycle.
+fn push_constraints(text: &mut Vec<u8>, cycle: &[Constraint]) -> Result<(), AllocError>
+    ensures { OnOk result (text.new.items ≡ text.old.items ++ constraint_lines cycle.now) }
+{
+    for constraint in cycle {
+        push_constraint(text, constraint.place, constraint.low, constraint.high)?;
+    }
+    Ok(())
+}
+
+/// A whole refusal: its first line with its end, and the line of each constraint of a cycle, which
+/// Universe and a Solution of Universe have and others don't.
+pub fn refusal_lines(
+    alloc: Global,
+    place: Place,
+    heading: Heading,
+    details: &[u8],
+    cycle: &[Constraint],
+) -> Result<Vec<u8>, AllocError>
+    ensures { IfOk result (λ text. text.items ≡ refusal_lines place heading details.now cycle.now) }
+{
+    let mut text = Vec::new(alloc);
+    push_refusal(&mut text, place, heading, details)?;
     text.extend_from_slice(b"\n")?;
+    push_constraints(&mut text, cycle)?;
     Ok(text)
 }
 

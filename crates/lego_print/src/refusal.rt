@@ -145,6 +145,23 @@ pub fn cause_text(alloc: Global, heading: Heading, details: &[u8]) -> Result<Vec
     Ok(text)
 }
 
+/// Adds the first line of a refusal, without its end.
+pub(crate) fn push_refusal(
+    text: &mut Vec<u8>,
+    place: Place,
+    heading: Heading,
+    details: &[u8],
+) -> Result<(), AllocError>
+    ensures { OnOk result (text.new.items ≡ text.old.items ++ refusal_text place heading details.now) }
+{
+    text.extend_from_slice(b"refused ")?;
+    push_place(text, place)?;
+    text.extend_from_slice(b" ")?;
+    push_number(text, u64::from(heading.number()))?;
+    text.extend_from_slice(b" ")?;
+    push_cause(text, heading, details)
+}
+
 /// The first line of a refusal, without its end.
 pub fn refusal_text(
     alloc: Global,
@@ -154,11 +171,7 @@ pub fn refusal_text(
 ) -> Result<Vec<u8>, AllocError>
     ensures { IfOk result (λ text. text.items ≡ refusal_text place heading details.now) }
 {
-    let mut text = Vec::from_slice(alloc, b"refused ")?;
-    push_place(&mut text, place)?;
-    text.extend_from_slice(b" ")?;
-    push_number(&mut text, u64::from(heading.number()))?;
-    text.extend_from_slice(b" ")?;
-    push_cause(&mut text, heading, details)?;
+    let mut text = Vec::new(alloc);
+    push_refusal(&mut text, place, heading, details)?;
     Ok(text)
 }

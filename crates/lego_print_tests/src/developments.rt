@@ -1,15 +1,23 @@
 //! The lines and commands of entries, and the text of a development.
-use crate::desk::{NAMELESS, names};
-use crate::few::Few;
+use crate::desk::{ENTRIES, NAMELESS, names};
+use crate::few::{Few, Later};
 use lego_base::Place;
-use lego_print::{Item, Shown, Universe, development_text, entry_command, entry_text};
-use lego_term::{Binder, Level, Mark, Term, lam, pi, univ, var};
+use lego_print::{
+    Item, Shown, Universe, development_text, entry_command, entry_lines, entry_text,
+    items_are_small,
+};
+use lego_term::{Binder, Level, Mark, Term, konst, lam, pi, prop, univ, var};
 use std::alloc::Global;
 use std::test::Fail;
 
 /// Entries of which none is called `A` or `a`.
 const OTHERS: Few = Few {
     names: [9, 9, 9, 9, 9, 9, 9, 9],
+};
+
+/// Entries of which none is in scope.
+const LATER: Later = Later {
+    names: [0, 1, 2, 3, 4, 5, 6, 7],
 };
 
 /// The implicit binder `A`, and the plain binder `a`.
@@ -124,4 +132,53 @@ fn universe(variable: u32, line: u32, column: u32) -> Universe {
         variable,
         place: Place { line, column },
     }
+}
+
+#[test]
+fn entries_have_lines(rt: HostRuntime) -> Result<(), Fail> {
+    let alloc = rt.alloc();
+    let names = names(alloc)?;
+    let (sort, entry) = (prop(alloc)?, konst(alloc, 0)?);
+    let items = [
+        assumption(0, 0, Mark::Plain, &sort),
+        assumption(2, 2, Mark::Implicit, &entry),
+    ];
+    let made = entry_lines(alloc, &names, &LATER, &items, Shown::Hidden)?;
+    assert!(rt;
+        made.as_slice() == b"A : Prop\na | A\n".as_slice(),
+        "{made:?}"
+    );
+    let made = entry_lines(alloc, &names, &LATER, &[], Shown::Hidden)?;
+    assert!(rt; made.as_slice() == b"".as_slice(), "{made:?}");
+    Ok(())
+}
+
+#[test]
+fn lines_know_the_entries_before_them(rt: HostRuntime) -> Result<(), Fail> {
+    let alloc = rt.alloc();
+    let names = names(alloc)?;
+    let (body, ty, sort) = (identity(alloc)?, identity_type(alloc)?, prop(alloc)?);
+    let items = [
+        definition(6, &ty, &body),
+        assumption(1, 0, Mark::Plain, &sort),
+        definition(7, &ty, &body),
+    ];
+    let made = entry_lines(alloc, &names, &LATER, &items, Shown::Least(&[2]))?;
+    let wanted =
+        b"c1 = [A|Type(2)][a:A]a : {A|Type(2)}A->A\nA : Prop\nc2 = [A1|Type(2)][a:A1]a : {A1|Type(2)}A1->A1\n".as_slice();
+    assert!(rt; made.as_slice() == wanted, "{made:?}, wanted {wanted:?}");
+    Ok(())
+}
+
+#[test]
+fn lines_know_the_entries_in_scope(rt: HostRuntime) -> Result<(), Fail> {
+    let alloc = rt.alloc();
+    let names = names(alloc)?;
+    let (body, ty) = (identity(alloc)?, identity_type(alloc)?);
+    let items = [definition(8, &ty, &body)];
+    items_are_small(&items, &[]);
+    let made = entry_lines(alloc, &names, &ENTRIES, &items, Shown::Least(&[2]))?;
+    let wanted = b"z = [A1|Type(2)][a1:A1]a1 : {A1|Type(2)}A1->A1\n".as_slice();
+    assert!(rt; made.as_slice() == wanted, "{made:?}, wanted {wanted:?}");
+    Ok(())
 }

@@ -1,8 +1,10 @@
 //! The numbers and names of refusals, and their first lines.
 use crate::desk::fixed;
 use lego_base::Place;
+use lego_level::Constraint;
 use lego_print::{
-    Details, Heading, Tried, cause_text, constraint_text, details_text, refusal_text, try_text,
+    Details, Heading, Tried, cause_text, constraint_text, details_text, refusal_lines,
+    refusal_text, try_text,
 };
 use lego_term::Level;
 use std::alloc::Global;
@@ -238,5 +240,26 @@ fn tries_have_lines(rt: HostRuntime) -> Result<(), Fail> {
     );
     let made = cause_text(alloc, Heading::NoFit, b"")?;
     assert!(rt; made.as_slice() == b"NoFit".as_slice(), "{made:?}");
+    Ok(())
+}
+
+#[test]
+fn refusals_have_the_lines_of_their_cycles(rt: HostRuntime) -> Result<(), Fail> {
+    let alloc = rt.alloc();
+    let place = Place {
+        line: 1,
+        column: 29,
+    };
+    let constraint = Constraint {
+        low: fixed(3),
+        high: fixed(2),
+        place: Some(place),
+    };
+    let made = refusal_lines(alloc, place, Heading::Universe, b"", &[constraint])?;
+    let wanted = b"refused 1:29 17 Universe\n  1:29: 3 <= 2\n".as_slice();
+    assert!(rt; made.as_slice() == wanted, "{made:?}, wanted {wanted:?}");
+    let made = refusal_lines(alloc, place, Heading::NotAType, b"a : A", &[])?;
+    let wanted = b"refused 1:29 13 NotAType a : A\n".as_slice();
+    assert!(rt; made.as_slice() == wanted, "{made:?}, wanted {wanted:?}");
     Ok(())
 }

@@ -1,6 +1,12 @@
 //! The text of each form of a term, in each rank.
-use crate::desk::{IMPLICIT_Z, NAMELESS, Z, apply, arrow, entry, f_a, f_z, fixed, sum, text_of};
-use lego_term::{Mark, app, fst, lam, local, pair, pi, prop, sigma, snd, univ, var};
+use crate::desk::{
+    ENTRIES, IMPLICIT_Z, NAMELESS, Z, apply, arrow, entry, f_a, f_z, fixed, names, sum, text_of,
+};
+use lego_print::{Shown, typing_text};
+use lego_term::{
+    Binder, List, Mark, Seen, Term, app, fst, lam, local, pair, pi, prop, sigma, snd, univ, var,
+};
+use std::alloc::Global;
 use std::test::Fail;
 
 #[test]
@@ -120,5 +126,29 @@ fn local_definitions_are_printed(rt: HostRuntime) -> Result<(), Fail> {
     let defined = local(alloc, Z, &entry(alloc, 0)?, &f_z(alloc)?)?;
     let made = text_of(alloc, apply(alloc, &entry(alloc, 3)?, &defined)?)?;
     assert!(rt; made.as_slice() == b"f ([z=A]f z)".as_slice(), "{made:?}");
+    Ok(())
+}
+
+/// A term and its type under the same binders.
+fn typing(alloc: Global, under: &[Binder], term: Term, ty: Term) -> Result<Vec<u8>, Fail> {
+    let names = names(alloc)?;
+    let term = Seen {
+        under: List::of(Vec::from_slice(alloc, under)?),
+        term,
+    };
+    let ty = Seen {
+        under: List::of(Vec::from_slice(alloc, under)?),
+        term: ty,
+    };
+    Ok(typing_text(alloc, &names, &ENTRIES, &term, &ty, Shown::Hidden)?)
+}
+
+#[test]
+fn typings_are_printed(rt: HostRuntime) -> Result<(), Fail> {
+    let alloc = rt.alloc();
+    let made = typing(alloc, &[], entry(alloc, 2)?, entry(alloc, 0)?)?;
+    assert!(rt; made.as_slice() == b"a : A".as_slice(), "{made:?}");
+    let made = typing(alloc, &[Z, Z], f_z(alloc)?, var(alloc, 1)?)?;
+    assert!(rt; made.as_slice() == b"f z1 : z".as_slice(), "{made:?}");
     Ok(())
 }

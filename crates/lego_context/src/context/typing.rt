@@ -1,9 +1,18 @@
 //! Types over a context.
 ghost use Rattle.lego_context.specs.Calls.{CanBeInferred, CanBeChecked, Infers, Checks};
+ghost use Rattle.lego_context.specs.Typed.{CanBeTyped, Types};
 
 use super::Context;
 use lego_inference::{At, Judged, Locals, TypeFault};
 use lego_term::Term;
+
+/// The type of a term, with the constraints under which it has it, and the least values of all
+/// level variables that satisfy these and those of the context.
+#[derive(Drop)]
+pub struct Settled {
+    pub judged: Judged,
+    pub values: Vec<u64>,
+}
 
 impl Context {
     /// The type of a term, which is principal, and the constraints under which it has it. They may
@@ -29,5 +38,20 @@ impl Context {
         ensures { Checks self.now locals.now m.now want.now asked result }
     {
         lego_inference::check(&self.signature, locals, m, want, self.levels, asked)
+    }
+
+    /// The type of a term without local variables, whose constraints can be satisfied together
+    /// with those of the context, and the least levels. The context stays as it is.
+    ///
+    /// Refused, in this order: the refusals of `infer`, `Universe`, `LevelTooBig`; `Memory` at any
+    /// point.
+    pub fn typed(&self, m: &Term, asked: At) -> Result<Settled, TypeFault>
+        requires { CanBeTyped self.now m.now }
+        ensures { Types self.now m.now asked result }
+    {
+        let locals = Locals::new(self.alloc);
+        let judged = self.infer(&locals, m, asked)?;
+        let values = self.settle(judged.constraints.items(), judged.levels)?;
+        Ok(Settled { judged, values })
     }
 }

@@ -17,7 +17,7 @@ use Rattle.lego_inference.proofs.ReadyLemmas.{loose_of}
 use Rattle.lego_inference.proofs.FailLemmas.{at_pair}
 use Rattle.lego_inference.proofs.FormerRules.{type_shaped}
 use Rattle.lego_inference.proofs.JudgeLemmas.{at_site, sort_found, few_names}
-use Rattle.lego_inference.proofs.CallLemmas.{ready_whole, measured_fails, judged_is}
+use Rattle.lego_inference.proofs.CallLemmas.{ready_whole, type_over, measured_fails, judged_is}
 use Rattle.lego_inference.proofs.WholeLemmas.{is_new, measured_alone, is_begun, whole_fails, type_fails, check_fails, written_fails, against_fails, inferred_whole, type_whole, check_whole, written_whole}
 use Rattle.lego_inference.proofs.calls.infer.Goals as goal
 
@@ -43,5 +43,5 @@ returns-in_err-ty c =
 pub returns : goal.returns
 returns c =
     let j = (at_site (λ z. Infers (laws_entries c.args.signature.now) c.args.asked z c.args.m.now c.new-found.result c.judge.new.found (Ok c.in_ok-ty.ty)) {l = c.in_ok-locals.locals} {n = c.new-found.result.levels} c.in_ok-locals.ensures c.new-found.ensures.levels c.in_ok-ty.ensures.judged) in
-    inferred_whole (laws_entries c.args.signature.now) c.args.asked.place (site_of c.args.locals.now c.args.levels) c.args.m.now j.0 c.in_ok-ty.ty c.judged.result c.judged.ensures.within (measured_alone (laws_entries c.args.signature.now) (site_of c.args.locals.now c.args.levels) c.args.m.now AnyType c.in_ok-measure.field-0 (λ a e. cc) c.in_ok-measure.ensures) j.2
+    inferred_whole (laws_entries c.args.signature.now) c.args.asked.place (site_of c.args.locals.now c.args.levels) c.args.m.now j.0 c.in_ok-ty.ty c.judged.result c.judged.ensures.within (measured_alone (laws_entries c.args.signature.now) (site_of c.args.locals.now c.args.levels) c.args.m.now AnyType c.in_ok-measure.field-0 (λ a e. cc) c.in_ok-measure.ensures) j.2 (type_over c.args.signature.now c.args.locals.now c.args.levels c.args.m.now c.in_ok-ty.ty c.in_ok-measure.field-0 c.alloc-alloc.ensures c.requires.held c.requires.term c.in_ok-measure.ensures j.2.rule)
     (judged_is c.judged.result c.in_ok-ty.ty j.0 (c.args.levels + nodes c.args.m.now) c.judged.ensures.ty (c.judged.ensures.constraints ∙ j.1.constraints ∙ ap (λ (z : List Constraint). z ++ j.0) c.new-found.ensures.constraints) (c.judged.ensures.levels ∙ j.1.levels ∙ ap (λ (z : ℕ). z + nodes c.args.m.now) c.new-found.ensures.levels))

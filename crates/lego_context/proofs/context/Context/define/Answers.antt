@@ -3,7 +3,7 @@ use Rattle.std.specs.Option.{option_copied}
 use Rattle.std.proofs.lemmas.Result.{err_from_is_err_and}
 use Rattle.lego_term.specs.Trees.{Core}
 use Rattle.lego_inference.specs.Failures.{TypeFails}
-use Rattle.lego_context.specs.Causes.{AddFails}
+use Rattle.lego_context.specs.Causes.{TypingFails, AddFails}
 use Rattle.lego_context.specs.Changes.{definition}
 use Rattle.lego_context.specs.Contexts.{Contents, IsContext}
 use Rattle.lego_context.specs.Entries.{IsLeastFree}
@@ -19,13 +19,13 @@ pub returns-in_err-judged : goal.returns-in_err-judged
 returns-in_err-judged c =
     let e = err_from_is_err_and c.from_residual.result c.from_residual.ensures.1 in
     let new = new_name c.args.name c.args.self.now.entries (sym c.position.ensures ∙ c.in_default.is) in
-    rw (e.1, e.2) (AddFails.check new c.in_err-judged.ensures, refl)
+    rw (e.1, e.2) (AddFails.typing new (TypingFails.check c.in_err-judged.ensures), refl)
 
 pub returns-in_err-share : goal.returns-in_err-share
 returns-in_err-share c =
     let e = err_from_is_err_and c.from_residual-in_err-share.result c.from_residual-in_err-share.ensures.1 in
     let new = new_name c.args.name c.args.self.now.entries (sym c.position.ensures ∙ c.in_default.is) in
-    rw (e.1, e.2) (AddFails.check new TypeFails.memory, refl)
+    rw (e.1, e.2) (AddFails.typing new (TypingFails.check TypeFails.memory), refl)
 
 pub store-requires : goal.store-requires
 store-requires c =

@@ -1,7 +1,7 @@
 use Rattle.std.proofs.Common.{sym, subst}
 use Rattle.lego_context.specs.Calls.{CanBeInferred, Infers}
 use Rattle.lego_context.specs.Contexts.{Contents}
-use Rattle.lego_context.proofs.ContextLemmas.{are_held}
+use Rattle.lego_context.proofs.HeldLemmas.{are_held}
 use Rattle.lego_context.proofs.TypingLemmas.{infers}
 use Rattle.lego_context.proofs.context.Context.infer.Goals as goal
 
