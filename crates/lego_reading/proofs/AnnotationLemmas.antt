@@ -71,18 +71,18 @@ module _ (es : List Entry) (limit : ℕ) (scope : Scope) (c : Core) where
 
 -- the root of no Sigma type
 pub shown_no_sigma : (n : Node) → ((x : Binder) (a b : Bor Term) → n ≡ node.Sigma x a b → ⊥) → is_sigma (shown n) ≡ false
-shown_no_sigma (node.Var i) no = refl
-shown_no_sigma (node.Const k) no = refl
-shown_no_sigma node.Prop no = refl
-shown_no_sigma (node.Univ l) no = refl
-shown_no_sigma (node.Pi x a b) no = refl
-shown_no_sigma (node.Lam x a b) no = refl
-shown_no_sigma (node.App m a b) no = refl
-shown_no_sigma (node.Sigma x a b) no = absurd (no x a b refl)
-shown_no_sigma (node.Pair x a b m n) no = refl
-shown_no_sigma (node.Fst a) no = refl
-shown_no_sigma (node.Snd a) no = refl
-shown_no_sigma (node.Local x a b) no = refl
+shown_no_sigma (node.Var i) other = refl
+shown_no_sigma (node.Const k) other = refl
+shown_no_sigma node.Prop other = refl
+shown_no_sigma (node.Univ l) other = refl
+shown_no_sigma (node.Pi x a b) other = refl
+shown_no_sigma (node.Lam x a b) other = refl
+shown_no_sigma (node.App m a b) other = refl
+shown_no_sigma (node.Sigma x a b) other = absurd (other x a b refl)
+shown_no_sigma (node.Pair x a b m n) other = refl
+shown_no_sigma (node.Fst a) other = refl
+shown_no_sigma (node.Snd a) other = refl
+shown_no_sigma (node.Local x a b) other = refl
 
 pub annotated_at : (es : List Entry) (limit : ℕ) {a b : Scope} (c : Core) (r : Result SigmaType ReadFault) → b ≡ a → IsAnnotated es limit b c r → IsAnnotated es limit a c r
 annotated_at es limit c r e h = subst (λ z. IsAnnotated es limit z c r) e h

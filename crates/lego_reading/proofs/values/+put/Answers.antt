@@ -1,5 +1,5 @@
-use Rattle.std.proofs.Common.{◌≡◌, ◌+◌, ℕ, suc, None, ◌∙◌, sym, ap, subst, arith}
-use Rattle.lego_term.specs.Trees.{Core}
+use Rattle.std.proofs.Common.{◌≡◌, ◌+◌, ℕ, suc, None, IfOk, ◌∙◌, sym, ap, subst, arith}
+use Rattle.lego_term.specs.Trees.{Core, lift}
 use Rattle.lego_term.specs.Made.{first_over}
 use Rattle.lego_term.proofs.OverLemmas.{first_over-fits, pair_rebuilds}
 use Rattle.lego_reading.specs.private.Values.{put_kept}
@@ -15,7 +15,8 @@ pub returns-then-index-at : goal.returns-then-index-at
 returns-then-index-at t c =
     let place : c.args.at + 1 ≡ suc c.args.at = omega arith in
     let same = ap (put_kept c.args.at c.args.value.now) (sym c.in-Var.ensures.root) ∙ put-here c.args.at c.in-Var.index c.args.value.now c.if-index-at.true in
-    lift_rebuilds c.args.at c.args.value.now c.args.t.now c.lift.result same c.loose-limits.ensures.limits ? c.lift.ensures.err
+    lift_rebuilds c.args.at c.args.value.now c.args.t.now c.lift.result same c.loose-limits.ensures.limits
+    (subst (λ n. IfOk c.lift.result (λ u. u ≡ lift 0 n c.args.value.now)) place c.lift.ensures.ok) c.lift.ensures.err
 
 pub returns-in_ok-n-in-Pair : goal.returns-in_ok-n-in-Pair
 returns-in_ok-n-in-Pair t c =

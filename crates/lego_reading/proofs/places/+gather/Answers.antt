@@ -1,0 +1,1 @@
+use Rattle.lego_reading.proofs.places.+gather.Goals as goal
