@@ -30,6 +30,7 @@ pub loop-place-preserved : goal.loop-place-preserved
 loop-place-preserved c =
     let xs = c.args.places.now in
     let i = c.loop-place.place-index in
-    let p : Place = get_or xs i record { line = 0; column = 0 } in
+    let none : Place = record { line = 0; column = 0 } in
+    let p : Place = get_or xs i none in
     c.in-Ok.ensures.1 ∙ ap (λ (z : Contents). with_universe z p) c.loop-place.invariant
-    ∙ sym (universes-push c.args.context.now (take i xs) p) ∙ ap (with_universes c.args.context.now) (sym (take_more xs i p c.loop-place-test.true))
+    ∙ sym (universes-push c.args.context.now (take i xs) p) ∙ ap (with_universes c.args.context.now) (sym (take_more xs i none c.loop-place-test.true))
