@@ -113,10 +113,10 @@ not_printed names limit old o act (Err e) So is refused h =
 
 -- A command of the code, over the parts of a session: those before it, and those that it leaves.
 module _ (names : Names) (limit : ℕ) (p q : Parts) (old : Session) (command : Command) (r : Result Answer Refusal) (viewed : session_of p ≡ old) where
-  o : WrittenCommand
+  abbrev o : WrittenCommand
   o = written_command command
 
-  IsStep : Type 0
+  abbrev IsStep : Type 0
   IsStep = IfOk r (λ a. Step names limit old o (record { refused = false; text = a.text }) (session_of q))
 
   -- what it is accepted for, over the session before it

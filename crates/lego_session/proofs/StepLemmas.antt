@@ -93,4 +93,4 @@ not-taken-back names limit h s s' n place fault cause r far same is made =
     let far' : IsTooFar (session h s) n cause = subst (λ x. IsTooFar (session h s) n x) (sym is) (too-far h s n fault far) in
     let here = subst (λ (x : State). IsRefusalOf names x.context.entries place cause r.place r.cause r.text) same made in
     refusal names limit (session h s) (record { place = place; act = written.Undo n }) es r.place r.cause r.text
-    (refused_so names es (λ q x. IsRefused limit (session h s) place (written.Undo n) es q x) place r.place cause r.cause r.text (inr (refl, (refl, far'))) here)
+    (refused_so names es (λ q x. IsRefused limit (session h s) place (written.Undo n) es q x) place r.place cause r.cause r.text (inr (refl, refl, far')) here)
