@@ -1,5 +1,5 @@
 -- Texts at the same values of the levels are one.
-use Rattle.std.proofs.Common.{◌≡◌, ℕ, zero, suc, ◌≤◌, if◌then◌else◌, List, [], ◌∷◌, ◌++◌, take, drop, length, get_or, Option, Some, None, option_map, refl, sym, ap, ◌∙◌, arith}
+use Rattle.std.proofs.Common.{◌≡◌, ℕ, zero, suc, ◌≤◌, if◌then◌else◌, List, [], ◌∷◌, ◌++◌, take, drop, length, get_or, Option, Some, None, option_map, refl, sym, ap, ◌∙◌, subst, arith}
 use Rattle.std.specs.Prelude.{codes, decimal}
 use Rattle.lego_term.specs.declared.binder.Mark.{Mark}
 use Rattle.lego_term.specs.declared.binder.Mark.TheVariants.{Plain, Implicit}
@@ -112,4 +112,4 @@ module _ (v : Assignment) where
 pub one_listing : (names : Names) (v w : Assignment) (es : List Item) (from : ℕ) (text other : List ℕ) → v ≡ w
     → AreEntryLines names v es from text → AreEntryLines names w es from other → text ≡ other
 one_listing names v w es from text other same p q =
-    p.is ∙ lines_alike v p.levels q.levels p.least (q.least ∙ sym same) (scope_among names es (take from es)) (laws_entries (drop from es)) ∙ sym q.is
+    p.is ∙ lines_alike v p.levels q.levels p.least (subst (λ x. IsLeast q.levels x) (sym same) q.least) (scope_among names es (take from es)) (laws_entries (drop from es)) ∙ sym q.is
