@@ -21,6 +21,7 @@ use Rattle.lego_session.specs.Runs.{Run, Runs, Closes, answers_text, refuses, so
 use Rattle.lego_session.specs.declared.progress.Progress.{Progress}
 use Rattle.lego_session.specs.declared.status.Status.{Status}
 use Rattle.lego_session.specs.declared.status.Status.TheVariants.{Accepted, Refused, Usage, ReadFault, WriteFault, Memory, OpenProof, TooLong}
+use Rattle.lego_session.proofs.ClosingLemmas.{match_passed, match_failed}
 use Rattle.lego_session.proofs.GatheredLemmas.{past_behind}
 use Rattle.lego_session.proofs.RunLemmas.{reached_first, run_with, run_here, text-push}
 
@@ -55,11 +56,7 @@ some_underway options p l l' t t' u = record { read = u.read; answers = u.answer
 -- what follows the answers, where no command ends the run, and where one does
 closes_on : {stop : Bool} {names : Names} {s : Session} {ending : Ending} {development text : List ℕ} {early : Bool} → early ≡ false
     → Closes stop names s ending development text → MatchBool early (text ≡ []) (Closes stop names s ending development text)
-closes_on {stop} {names} {s} {ending} {development} {text} e h =
-    subst (λ b. MatchBool b (text ≡ []) (Closes stop names s ending development text)) (sym e) h
-
-closes_early : {P : Type 0} {early : Bool} → early ≡ true → MatchBool early ([] ≡ ([] : List ℕ)) P
-closes_early {P} e = subst (λ b. MatchBool b ([] ≡ ([] : List ℕ)) P) (sym e) refl
+closes_on {stop} {names} {s} {ending} {development} {text} {early} e h = match_failed early (text ≡ []) (Closes stop names s ending development text) e h
 
 -- where no refusal ends a run, that of the ending doesn't
 ending_goes_on : (stop some ending : Bool) → (stop && (some || ending)) ≡ false → (stop && ending) ≡ false
@@ -177,7 +174,7 @@ module _ (options : Options) (p : Progress) (l l' t t' : Option (List ℕ)) (u :
               refusal = ap (λ r. r || false) (and_right p'.options.stop (some_refused (u.answers ++ more)) early);
               development = [];
               output = answers_text (u.answers ++ more) ++ [];
-              is_output = record { closing = []; closes = closes_early early; is = refl };
+              is_output = record { closing = []; closes = match_passed (ends_early p'.options.stop (u.answers ++ more)) _ _ early refl; is = refl };
               written = subst (Appends t t'') (sym (append-nil (answers_text (u.answers ++ more)) ∙ text-push u.answers more)) (Appends-trans t t' t'' _ _ u.written w);
               headline = λ none. absurd (false≢true (sym none ∙ ap (λ b. b && true) (and_left p'.options.stop (some_refused (u.answers ++ more)) early)));
             }
