@@ -129,7 +129,7 @@ module _ (names : Names) where
   term_held (Reads.parens p q r) = term_held r
   term_held (Reads.pair p q r s m n a) = (term_held m, term_held n, term_held a)
   term_held (Reads.bind p q r {kind = kind} {mark = mark} {xs = xs} may list a m) = (binders_held (kind_of kind) mark (names_of xs) (list_held list), term_held a, term_held m)
-  term_held (Reads.local p q r s {n = n} {text = text} h m b) = (held_at names n text h, term_held m, term_held b)
+  term_held (Reads.local {n = n} p q r s {text = text} h m b) = (held_at names n text h, term_held m, term_held b)
 
   binding_held : {ts : List Nested} {b : WrittenBinding} → ReadsBinding names ts b → AreHeld names b.names × AreKindHeld names b.kind
   binding_held (ReadsBinding.assume p q r list type) = (list_held list, term_held type)
@@ -190,6 +190,9 @@ behind_front names (t ∷ tokens) =
     let rest = behind_front (names_with names t.lexeme) tokens in
     (one.0 ++ rest.0, rest.1 ∙ (ap (λ (ns : Names). ns ++ rest.0) one.1 ∙ append_assoc names one.0 rest.0))
 
+front_cons : (x y : List ℕ) (a b : Names) → y ≡ x → IsFront a b → IsFront (x ∷ a) (y ∷ b)
+front_cons x y a b same front = (front.0, ap₂ (λ (n : List ℕ) (ns : Names). n ∷ ns) same front.1)
+
 -- of two fronts of one list the shorter one is a front of the other
 front_of_longer : (a b whole : Names) → IsFront a whole → IsFront b whole → length a ≤ length b → IsFront a b
 front_of_longer [] b whole p q l = (b, refl)
@@ -199,8 +202,7 @@ front_of_longer (x ∷ a) (y ∷ b) (z ∷ whole) p q l =
     let same : y ≡ x = let e = p.1 in let f = q.1 in cc in
     let first : whole ≡ a ++ p.0 = let e = p.1 in cc in
     let other : whole ≡ b ++ q.0 = let f = q.1 in cc in
-    let rest = front_of_longer a b whole (p.0, first) (q.0, other) (omega (arith, l)) in
-    (rest.0, ap₂ (λ (n : List ℕ) (ns : Names). n ∷ ns) same rest.1)
+    front_cons x y a b same (front_of_longer a b whole (p.0, first) (q.0, other) (omega (arith, l)))
 
 kept_front : {old new : Names} → new ≡ old → IsFront old new
 kept_front {old = old} e = ([], e ∙ sym (append-nil old))
@@ -233,8 +235,7 @@ behind_true names (t ∷ tokens) all tokens_true = behind_true (names_with names
 
 front_true : (front whole : Names) → IsFront front whole → AreTrueNames whole → AreTrueNames front
 front_true front whole g all =
-    let is_name = λ text. token_of text ≡ Some (Name text) in
-    All-front is_name front g.0 (subst (All is_name) g.1 all)
+    All-front (λ text. token_of text ≡ Some (Name text)) front g.0 (subst AreTrueNames g.1 all)
   where
     All-front : (P : List ℕ → Type 0) (xs ys : Names) → All P (xs ++ ys) → All P xs
     All-front P [] ys h = All-nil P
