@@ -1,5 +1,5 @@
 -- The annotation of a pair.
-use Rattle.std.proofs.Common.{◌≡◌, ℕ, ◌≤◌, List, length, false, true, Option, Result, Ok, Err, IfOk, IfErr, Bor, refl, sym, ap, ◌∙◌, subst, arith}
+use Rattle.std.proofs.Common.{◌≡◌, ℕ, ◌≤◌, List, length, false, Option, Result, Ok, Err, IfOk, IfErr, Bor, refl, sym, ap, ◌∙◌, subst}
 use Rattle.lego_term.specs.declared.binder.Binder.{Binder}
 use Rattle.lego_term.specs.declared.seen.Seen.{Seen}
 use Rattle.lego_term.specs.declared.term.Term.{Term}
@@ -47,7 +47,7 @@ module _ (b : BodyMap) (es : List Entry) (are : bodies_in b ≡ core_bodies es) 
       → EndsAt es limit scope c t (Err (fault.TooLarge i j))
   ends_large f i j e h = λ same none.
       let r = subst (λ z. Reduces (head_step (core_bodies es)) z limit (Err (reduce.TooLarge i j))) same
-        (subst (λ z. Reduces (head_step (core_bodies es)) t limit (Err z)) e (reduces_in (Err f) h)) in
+      (subst (λ z. Reduces (head_step (core_bodies es)) t limit (Err z)) e (reduces_in (Err f) h)) in
       IsNotAnnotated.no_head_form none (HasNoHeadForm.head_too_large r.0 r.2 r.3 r.4)
 
 module _ (es : List Entry) (limit : ℕ) (scope : Scope) (c : Core) where

@@ -1,5 +1,5 @@
 -- What a reading asks holds of the parts.
-use Rattle.std.proofs.Common.{◌≡◌, ℕ, zero, suc, max, ◌+◌, ◌≤◌, ◌<◌, List, [], ◌∷◌, ◌++◌, length, map, get_or, Some, None, IsSome, refl, sym, ap, ◌∙◌, subst, arith}
+use Rattle.std.proofs.Common.{◌≡◌, ℕ, zero, suc, ◌+◌, ◌≤◌, ◌<◌, List, [], ◌∷◌, ◌++◌, length, map, get_or, Some, None, IsSome, sym, subst, arith}
 use Rattle.std.specs.List.{AllByRecursion}
 use Rattle.lego_base.specs.declared.place.Place.{Place}
 use Rattle.lego_term.specs.declared.binder.Mark.{Mark}
@@ -12,7 +12,6 @@ use Rattle.lego_grammar.specs.declared.surface.Surface.{Surface}
 use Rattle.lego_grammar.specs.Scopes.{LocalVariable, Scope}
 use Rattle.lego_context.specs.Contexts.{Contents}
 use Rattle.lego_reading.specs.Universes.{type_places, variables_for}
-use Rattle.lego_reading.specs.Calls.{locals_within}
 use Rattle.lego_reading.specs.private.Variables.{AreOver}
 use Rattle.lego_reading.specs.private.Parts.{IsReady}
 use Rattle.lego_reading.specs.private.Binders.{inner_scope, written_argument}

@@ -1,6 +1,6 @@
 -- Applications to several arguments, and runs of projections.
-use Rattle.std.proofs.Common.{◌≡◌, ℕ, ◌+◌, ◌<◌, ◌≤◌, List, [], ◌∷◌, ◌++◌, length, map, take, drop, get_or, Result, Ok, Err, refl, sym, ap, ◌∙◌, subst, arith}
-use Rattle.std.proofs.lemmas.List.{take-append-drop, take_more, take_all, map-append}
+use Rattle.std.proofs.Common.{◌≡◌, ℕ, ◌+◌, ◌<◌, List, [], ◌∷◌, ◌++◌, length, map, take, drop, get_or, Result, refl, sym, ap, ◌∙◌, subst}
+use Rattle.std.proofs.lemmas.List.{take-append-drop, take_more, map-append}
 use Rattle.lego_term.specs.declared.binder.Mark.{Mark}
 use Rattle.lego_term.specs.Trees.{Core, App}
 use Rattle.lego_laws.specs.Entries.{Entry}
@@ -45,7 +45,7 @@ module _ {es : List Entry} {types : TypeVariables} {scope : Scope} where
   arguments_stop {limit} {f} m xs n h =
       subst (λ z. Stops es types limit scope z f)
       (sym (applied-append m (map written_argument (take n xs)) (map written_argument (drop n xs)))
-        ∙ ap (applied m) (sym (map-append written_argument (take n xs) (drop n xs)) ∙ ap (map written_argument) (take-append-drop n xs)))
+      ∙ ap (applied m) (sym (map-append written_argument (take n xs) (drop n xs)) ∙ ap (map written_argument) (take-append-drop n xs)))
       (under_arguments (applied m (map written_argument (take n xs))) (map written_argument (drop n xs)) h)
 
   -- one projection more

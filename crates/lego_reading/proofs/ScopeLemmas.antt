@@ -1,5 +1,5 @@
 -- The local variables in scope, as the code keeps them.
-use Rattle.std.proofs.Common.{◌≡◌, ℕ, zero, suc, ◌+◌, ◌-◌, ◌<◌, ◌≤◌, Bool, true, false, if◌then◌else◌, List, [], ◌∷◌, ◌++◌, length, map, reverse, take, drop, get_or, slice_get, Option, Some, None, option_map, refl, sym, ap, ◌∙◌, subst, arith}
+use Rattle.std.proofs.Common.{◌≡◌, ℕ, zero, suc, ◌-◌, ◌<◌, ◌≤◌, Bool, true, false, if◌then◌else◌, List, [], ◌∷◌, ◌++◌, length, map, reverse, take, drop, get_or, slice_get, Option, Some, None, option_map, refl, sym, ap, ◌∙◌, arith}
 use Rattle.std.specs.Option.{option_eq}
 use Rattle.std.proofs.Math.Dec.{eqb}
 use Rattle.std.proofs.lemmas.Bool.Decides.{nat_tests}
@@ -26,7 +26,7 @@ none_more (y ∷ scope) n zero x at other none =
     rw here refl
 none_more (y ∷ scope) n (suc i) x at other none =
     elim (is_named n (local_name y)) as (λ b. (if b then Some 0 else option_map suc (local_named (take i scope) n)) ≡ None
-      → (if b then Some 0 else option_map suc (local_named (take (suc i) scope) n)) ≡ None) [
+    → (if b then Some 0 else option_map suc (local_named (take (suc i) scope) n)) ≡ None) [
       | true ↦ λ h. h
       | false ↦ λ h. ap (option_map suc) (none_more scope n i x at other (unmapped (local_named (take i scope) n) h))
     ] none
@@ -44,7 +44,7 @@ first_named (y ∷ scope) n zero x at is none =
     rw here refl
 first_named (y ∷ scope) n (suc i) x at is none =
     elim (is_named n (local_name y)) as (λ b. (if b then Some 0 else option_map suc (local_named (take i scope) n)) ≡ None
-      → (if b then Some 0 else option_map suc (local_named scope n)) ≡ Some (suc i)) [
+    → (if b then Some 0 else option_map suc (local_named scope n)) ≡ Some (suc i)) [
       | true ↦ λ h. cc
       | false ↦ λ h. ap (option_map suc) (first_named scope n i x at is (unmapped (local_named (take i scope) n) h))
     ] none
@@ -82,10 +82,13 @@ module _ {X Y : Type 0} (f : X → Y) where
     where
       front : List X
       front = take (length xs - k) xs
+
       back : List X
       back = drop (length xs - k) xs
+
       count : length (reverse back) ≡ k
       count = let a = length-reverse back in let b = length-drop (length xs - k) xs in omega arith
+
       dropped : drop k (reverse xs) ≡ reverse front
       dropped =
           ap (drop k) (ap reverse (sym (take-append-drop (length xs - k) xs)) ∙ reverse-append front back)

@@ -1,5 +1,5 @@
 -- The places of written `Type`s, and their level variables.
-use Rattle.std.proofs.Common.{◌≡◌, ℕ, zero, suc, ◌+◌, ◌≤◌, ◌<◌, Bool, true, false, ◌||◌, nat_eq, if◌then◌else◌, List, [], ◌∷◌, ◌++◌, length, map, take, get_or, position, Option, Some, None, option_map, IsSome, Result, Ok, Err, OnOk, refl, sym, ap, ◌∙◌, subst, arith}
+use Rattle.std.proofs.Common.{◌≡◌, ℕ, suc, ◌+◌, ◌<◌, Bool, true, false, ◌||◌, nat_eq, if◌then◌else◌, List, [], ◌∷◌, ◌++◌, length, map, take, get_or, position, Option, Some, None, option_map, IsSome, Result, Ok, Err, OnOk, refl, sym, ap, ◌∙◌, subst, arith}
 use Rattle.std.specs.List.{AllByRecursion, list_any}
 use Rattle.std.proofs.lemmas.List.{append_assoc, append-nil, map-append, take_more}
 use Rattle.std.proofs.lemmas.List.Folds.{list_any-append}
@@ -12,7 +12,7 @@ use Rattle.lego_grammar.specs.Written.{Written}
 use Rattle.lego_grammar.specs.Surface.{written, applied, projected}
 use Rattle.lego_context.specs.Contexts.{Contents}
 use Rattle.lego_context.specs.Changes.{with_universe}
-use Rattle.lego_reading.specs.Universes.{type_places, is_place, with_place, with_places, places_of, variables_for, with_universes}
+use Rattle.lego_reading.specs.Universes.{type_places, is_place, with_place, with_places, variables_for, with_universes}
 use Rattle.lego_reading.specs.private.Binders.{written_argument}
 use Rattle.lego_reading.proofs.EntryLemmas.{position-cons}
 
@@ -111,6 +111,7 @@ module _ (q : Place → Bool) where
       mapped : (o : Option ℕ) (f : ℕ → ℕ) → IsSome o → IsSome (option_map f o)
       mapped (Some i) f h = h
       mapped None f h = h
+
       there : (ps : List Place) → list_any q ps ≡ true → IsSome (position q ps)
       there [] h = cc
       there (p ∷ ps) h =
@@ -119,6 +120,7 @@ module _ (q : Place → Bool) where
             | true ↦ λ e. refl
             | false ↦ λ e. mapped (position q ps) suc (there ps e)
           ] h)
+
       found : (ps : List Place) (n : ℕ) → list_any q ps ≡ true → IsSome (option_map (λ i. n + i) (position q ps))
       found ps n h = mapped (position q ps) (λ i. n + i) (there ps h)
 

@@ -1,4 +1,4 @@
-use Rattle.std.proofs.Common.{◌≡◌, ◌≤◌, ◌∙◌, length, false, sym, ap, subst, arith}
+use Rattle.std.proofs.Common.{◌≡◌, ◌∙◌, false, sym, ap, subst, arith}
 use Rattle.std.proofs.lemmas.Result.{err_from_is_err_and}
 use Rattle.lego_term.specs.declared.seen.Seen.{Seen}
 use Rattle.lego_term.specs.Trees.{Core, loose}
@@ -13,7 +13,7 @@ pub returns-in_err-with_values : goal.returns-in_err-with_values
 returns-in_err-with_values c =
     let e = err_from_is_err_and c.from_residual.result c.from_residual.ensures.1 in
     rw (e.1, e.2) (puts_not (laws_entries c.args.setting.now.context.now.entries) c.args.setting.now.limit c.args.scope.now c.args.ty.now
-      c.in_err-with_values.field-0.0 c.requires.other c.in_err-with_values.ensures)
+    c.in_err-with_values.field-0.0 c.requires.other c.in_err-with_values.ensures)
 
 pub returns-in-Sigma : goal.returns-in-Sigma
 returns-in-Sigma c =

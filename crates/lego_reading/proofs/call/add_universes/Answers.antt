@@ -1,4 +1,4 @@
-use Rattle.std.proofs.Common.{◌≡◌, ◌∙◌, List, length, take, get_or, sym, ap}
+use Rattle.std.proofs.Common.{◌∙◌, List, length, take, get_or, sym, ap}
 use Rattle.std.proofs.lemmas.List.{take_more}
 use Rattle.lego_base.specs.declared.place.Place.{Place}
 use Rattle.lego_inference.specs.declared.entry.Universe.{Universe}

@@ -25,7 +25,7 @@ returns-in_err-core c =
     let s = written c.args.s.now in
     let places : List Place = c.as_slice.result.now in
     let is : places ≡ places_of s =
-      c.as_slice.ensures.value ∙ c.in_ok-gather.ensures ∙ ap (λ (held : List Place). with_places held (type_places s)) c.new-places.ensures.items in
+    c.as_slice.ensures.value ∙ c.in_ok-gather.ensures ∙ ap (λ (held : List Place). with_places held (type_places s)) c.new-places.ensures.items in
     let count = ap (λ (ps : List Place). length ps) c.as_slice.ensures.value in
     let room : c.args.context.now.levels + length places ≤ 1048576 = omega (arith, c.levels.ensures.exact, c.gather.new.places.ok.0) in
     let e = err_from_is_err_and c.from_residual-in_err-core.result c.from_residual-in_err-core.ensures.1 in
@@ -41,10 +41,10 @@ returns c =
     let s = written c.args.s.now in
     let places : List Place = c.as_slice.result.now in
     let is : places ≡ places_of s =
-      c.as_slice.ensures.value ∙ c.in_ok-gather.ensures ∙ ap (λ (held : List Place). with_places held (type_places s)) c.new-places.ensures.items in
+    c.as_slice.ensures.value ∙ c.in_ok-gather.ensures ∙ ap (λ (held : List Place). with_places held (type_places s)) c.new-places.ensures.items in
     let count = ap (λ (ps : List Place). length ps) c.as_slice.ensures.value in
     let room : c.args.context.now.levels + length places ≤ 1048576 = omega (arith, c.levels.ensures.exact, c.gather.new.places.ok.0) in
     let grown : c.add_universes.new.context ≡ with_universes c.args.context.now places =
-      c.in_ok-add_universes.ensures.ok ∙ ap (with_universes c.args.context.now) (c.as_slice-2.ensures.value ∙ sym c.as_slice.ensures.value) in
+    c.in_ok-add_universes.ensures.ok ∙ ap (with_universes c.args.context.now) (c.as_slice-2.ensures.value ∙ sym c.as_slice.ensures.value) in
     read_core c.args.context.now places s c.args.asked.limit is c.in_ok-core.core c.add_universes.new.context room c.len-entries.ensures.named c.requires
     c.in_ok-core.ensures grown

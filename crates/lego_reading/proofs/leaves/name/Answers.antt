@@ -1,4 +1,4 @@
-use Rattle.std.proofs.Common.{◌≤◌, suc, length, sym, arith}
+use Rattle.std.proofs.Common.{sym, arith}
 use Rattle.lego_term.specs.Trees.{Var, Const}
 use Rattle.lego_grammar.specs.Reading.{ReadsExplicitly}
 use Rattle.lego_reading.proofs.PartLemmas.{named_is, unknown_name}
@@ -30,5 +30,5 @@ returns c =
     let e = c.in-Some-entry.entry.now in
     named_is c.args.setting.now.limit c.made-2.result
     (ReadsExplicitly.entry (sym c.in_default.ensures)
-      (entry_at c.args.setting.now.context.now.entries c.args.name c.in-Some-position.at e (sym c.in-Some-position.ensures) (sym c.in-Some-entry.ensures)))
+    (entry_at c.args.setting.now.context.now.entries c.args.name c.in-Some-position.at e (sym c.in-Some-position.ensures) (sym c.in-Some-entry.ensures)))
     (omega arith) (c.made-2.ensures (Const e.number) c.konst.ensures)

@@ -1,4 +1,4 @@
-use Rattle.std.proofs.Common.{ap, sym, subst}
+use Rattle.std.proofs.Common.{sym, subst}
 use Rattle.lego_term.specs.Trees.{Fst, Snd}
 use Rattle.lego_grammar.specs.declared.surface.Part.{Part}
 use Rattle.lego_grammar.specs.Reading.{project_core}

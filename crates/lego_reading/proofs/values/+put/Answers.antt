@@ -25,7 +25,7 @@ returns-in_ok-n-in-Pair t c =
     let next : at + 1 ≡ suc at = omega arith in
     let b : Core = c.in-Pair.b.now in
     let second : (c.in_ok-b-in-Pair.b ≡ put (suc at) b) × (first_over (put (suc at) b) ≡ None) =
-      subst (λ (k : ℕ). (c.in_ok-b-in-Pair.b ≡ put k b) × (first_over (put k b) ≡ None)) next c.in_ok-b-in-Pair.ensures in
+    subst (λ (k : ℕ). (c.in_ok-b-in-Pair.b ≡ put k b) × (first_over (put k b) ≡ None)) next c.in_ok-b-in-Pair.ensures in
     pair_rebuilds c.in-Pair.binder (put at c.in-Pair.a.now) (put (suc at) b) (put at c.in-Pair.m.now) (put at c.in-Pair.n.now)
     c.in_ok-a-in-Pair.a c.in_ok-b-in-Pair.b c.in_ok-m-in-Pair.m c.in_ok-n-in-Pair.n (put at c.args.t.now) c.pair.result
     (sym (ap (put at) c.in-Pair.ensures.root)) c.in_ok-a-in-Pair.ensures second c.in_ok-m-in-Pair.ensures c.in_ok-n-in-Pair.ensures c.pair.ensures
