@@ -1,5 +1,5 @@
 -- What a call of `run` did, from what its parts did.
-use Rattle.std.proofs.Common.{◌≡◌, ℕ, ◌+◌, ◌≤◌, ◌<◌, Bool, true, false, ◌||◌, ◌&&◌, List, [], ◌∷◌, ◌++◌, length, take, drop, Option, None, Some, refl, sym, ap, ◌∙◌, subst, inl, inr, arith, append-nil, append_assoc, length-append, length-drop, length-take}
+use Rattle.std.proofs.Common.{◌≡◌, ◌≢◌, ℕ, ◌+◌, ◌≤◌, ◌<◌, Bool, true, false, ◌||◌, ◌&&◌, List, [], ◌∷◌, ◌++◌, length, take, drop, Option, None, Some, refl, sym, ap, ◌∙◌, subst, inl, inr, arith, append-nil, append_assoc, length-append, length-drop, length-take}
 use Rattle.std.specs.Prelude.{◌⊎◌, MatchBool}
 use Rattle.std.proofs.lemmas.Bool.{false≢true}
 use Rattle.std.proofs.lemmas.List.{take_all, take-append-drop}
@@ -16,7 +16,7 @@ use Rattle.lego_session.specs.Sessions.{Session, empty_session}
 use Rattle.lego_session.specs.Step.{Reply}
 use Rattle.lego_session.specs.Texts.{first_place}
 use Rattle.lego_session.specs.Outcomes.{IsReadWhole, IsReadFor, IsReadToRefused, Completed, AnswersAll, Broken, Overlong, IsCutAmongAnswers, IsCutInClosing, CutOff, Outcome, IsAcceptable}
-use Rattle.lego_session.specs.private.Progress.{HasAnswered, HasAnsweredSome, IsUnderway, IsClosed, IsClosedInPart, IsFinished, IsPassed, IsEnded, IsStopped, IsHalted, IsOverlong}
+use Rattle.lego_session.specs.private.Progress.{HasAnswered, HasAnsweredSome, IsUnderway, IsClosed, IsClosedInPart, IsFinished, IsPassed, IsEnded, IsStopped, IsHalted, IsOverlong, IsCounted}
 use Rattle.lego_session.specs.Runs.{Run, Runs, Closes, answers_text, refuses, some_refused, ends_early, is_ending_refused}
 use Rattle.lego_session.specs.declared.progress.Progress.{Progress}
 use Rattle.lego_session.specs.declared.status.Status.{Status}
@@ -32,6 +32,17 @@ and_left false b h = h
 and_right : (a b : Bool) → (a && b) ≡ true → b ≡ true
 and_right true b h = h
 and_right false b h = absurd (false≢true h)
+
+-- no fault of the sink was counted, where none is answered
+pub not_counted : (before now : ℕ) (status : Status) → IsCounted before now status → status ≢ WriteFault → now ≡ before
+not_counted before now Accepted h none = h
+not_counted before now Refused h none = h
+not_counted before now Usage h none = h
+not_counted before now ReadFault h none = h
+not_counted before now WriteFault h none = absurd (none refl)
+not_counted before now Memory h none = h
+not_counted before now OpenProof h none = h
+not_counted before now TooLong h none = h
 
 -- nothing was read yet
 pub underway_first : (options : Options) (p : Progress) (l t : Option (List ℕ)) → p.options ≡ options → HasAnswered p [] [] → IsUnderway options p l l t t
