@@ -1,5 +1,6 @@
 //! Contexts without holes, to which entries are added whose terms are seen to be over them.
-ghost use Rattle.std.specs.Prelude.{◌≡◌, ◌≤◌, [], OnTrue};
+ghost use Rattle.std.specs.Prelude.{◌≤◌, []};
+ghost use Rattle.std.specs.Bool.{OnTrue};
 ghost use Rattle.lego_laws.specs.Ranges.{levels_bound};
 ghost use Rattle.lego_inference.specs.Calls.{IsTermOver};
 ghost use Rattle.lego_inference.specs.Entries.{laws_entries};

@@ -1,5 +1,6 @@
 //! Terms and contexts of the tests, and the calls on terms that are over a context.
-ghost use Rattle.std.specs.Prelude.{◌≤◌, OnTrue};
+ghost use Rattle.std.specs.Prelude.{◌≤◌};
+ghost use Rattle.std.specs.Bool.{OnTrue};
 ghost use Rattle.lego_laws.specs.Ranges.{levels_bound};
 ghost use Rattle.lego_inference.specs.Entries.{laws_entries};
 ghost use Rattle.lego_inference.specs.Locals.{NamesEntries};

@@ -6,7 +6,7 @@ use lego_base::Place;
 use lego_context::Context;
 use lego_level::Constraint;
 use lego_term::{Level, konst, prop, univ};
-use std::alloc::Global;
+use std::alloc::{AllocError, Global};
 use std::test::*;
 
 /// The variables of the universes.
@@ -109,10 +109,19 @@ fn a_copy_is_apart_from_its_original(rt: HostRuntime) -> Result<(), Fail> {
     Ok(())
 }
 
+/// The context of empty lists, which are those of a new context.
+fn of_empty_lists(alloc: Global) -> Result<Context, AllocError> {
+    let entries = Vec::new(alloc);
+    let universes = Vec::new(alloc);
+    let new = Context::new(alloc);
+    let _entries = new.len();
+    Context::of_entries(alloc, entries, universes)
+}
+
 #[test]
 fn the_empty_lists_make_the_empty_context(rt: HostRuntime) -> Result<(), Fail> {
     let alloc = rt.alloc();
-    let context = Context::of_entries(alloc, Vec::new(alloc), Vec::new(alloc))?;
+    let context = of_empty_lists(alloc)?;
     assert_eq!(rt; (context.len(), context.levels()), (0, 0));
     Ok(())
 }

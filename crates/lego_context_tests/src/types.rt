@@ -74,7 +74,8 @@ fn leaves(alloc: Global) -> Result<Vec<Typed>, Fail> {
 /// The place of the first term whose type is another, or that is refused.
 fn first_wrong(alloc: Global, cases: &[Typed]) -> Result<Option<usize>, Fail> {
     let context = fixture(alloc)?;
-    for (at, case) in cases.iter().enumerate() {
+    for at in 0..cases.len() {
+        let case = &cases[at];
         match infer(alloc, &context, &case.term) {
             Ok(judged) if identical(&judged.ty, &case.ty) => {}
             _ => return Ok(Some(at)),
