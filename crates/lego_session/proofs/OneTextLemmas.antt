@@ -56,8 +56,8 @@ module _ (v : Assignment) where
         let domain = term_alike scope 0 a in
         let body = term_alike (bound scope x.name) 0 b in
         λ z. ranked 0 wanted (if is_arrow x b
-            then arrow_domain z ++ codes "->" ++ arrow_body z
-            else codes "{" ++ binder_name scope x.name ++ sign_text x.mark ++ domain z ++ codes "}" ++ body z)
+        then arrow_domain z ++ codes "->" ++ arrow_body z
+        else codes "{" ++ binder_name scope x.name ++ sign_text x.mark ++ domain z ++ codes "}" ++ body z)
     term_alike scope wanted (Lam x a m) =
         let domain = term_alike scope 0 a in
         let body = term_alike (bound scope x.name) 0 m in
@@ -72,8 +72,8 @@ module _ (v : Assignment) where
         let domain = term_alike scope 0 a in
         let body = term_alike (bound scope x.name) 0 b in
         λ z. ranked (sigma_rank b) wanted (if is_unused b
-            then first z ++ codes "#" ++ second z
-            else codes "<" ++ binder_name scope x.name ++ codes ":" ++ domain z ++ codes ">" ++ body z)
+        then first z ++ codes "#" ++ second z
+        else codes "<" ++ binder_name scope x.name ++ codes ":" ++ domain z ++ codes ">" ++ body z)
     term_alike scope wanted (Pair x a b m n) =
         let left = term_alike scope 0 m in
         let right = term_alike scope 0 n in
@@ -82,10 +82,10 @@ module _ (v : Assignment) where
         let domain = term_alike scope 0 a in
         let body = term_alike (bound scope x.name) 0 b in
         λ z. codes "(" ++ left z ++ codes "," ++ right z ++ codes ":"
-            ++ (if is_unused b
-            then first z ++ codes "#" ++ second z
-            else codes "<" ++ binder_name scope x.name ++ codes ":" ++ domain z ++ codes ">" ++ body z)
-            ++ codes ")"
+        ++ (if is_unused b
+        then first z ++ codes "#" ++ second z
+        else codes "<" ++ binder_name scope x.name ++ codes ":" ++ domain z ++ codes ">" ++ body z)
+        ++ codes ")"
     term_alike scope wanted (Fst m) = ap (λ text. text ++ codes ".1") (term_alike scope 3 m)
     term_alike scope wanted (Snd m) = ap (λ text. text ++ codes ".2") (term_alike scope 3 m)
     term_alike scope wanted (Let x m n) =

@@ -14,5 +14,5 @@ pub returns-in-Err-clause-cause : goal.returns-in-Err-clause-cause
 returns-in-Err-clause-cause c =
     let old = c.args.self.now in
     λ limit.
-      not-taken-back c.args.names.now limit old.history old.state c.undo.new.state c.args.count c.args.place c.in-Err.fault c.from.result c.refusal.result
-      c.in-Err.ensures.cause c.in-Err.ensures.kept c.from.ensures c.refusal.ensures
+    not-taken-back c.args.names.now limit old.history old.state c.undo.new.state c.args.count c.args.place c.in-Err.fault c.from.result c.refusal.result
+    c.in-Err.ensures.cause c.in-Err.ensures.kept c.from.ensures c.refusal.ensures
