@@ -1,4 +1,4 @@
-use Rattle.std.proofs.Common.{◌≡◌, sym, ap, ◌∙◌}
+use Rattle.std.proofs.Common.{sym, ap, ◌∙◌}
 use Rattle.lego_term.specs.Sequences.{head_step, normal_step}
 use Rattle.lego_term.specs.BodyMap.{bodies_in}
 use Rattle.lego_session.specs.commands.Show.{step_to}
