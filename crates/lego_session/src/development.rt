@@ -60,11 +60,7 @@ fn all_listed(alloc: Global, context: &Context) -> Result<Vec<Universe>, AllocEr
 }
 
 /// The development of a context without a hole, whose names are held.
-fn development(
-    alloc: Global,
-    names: &Names,
-    context: &Context,
-) -> Result<Vec<u8>, AllocError>
+fn development(alloc: Global, names: &Names, context: &Context) -> Result<Vec<u8>, AllocError>
     requires no_hole { HasNoHole context.now.entries }
     requires true_names { AreTrueNames names.now }
     requires known { AreKnown names.now context.now }
