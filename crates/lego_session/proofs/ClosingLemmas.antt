@@ -7,7 +7,7 @@ use Rattle.lego_base.specs.Bytes.{AppendsFront}
 use Rattle.lego_grammar.specs.Grammar.{Names}
 use Rattle.lego_lexer.specs.Commands.{Ending}
 use Rattle.lego_session.specs.Headline.{Headline}
-use Rattle.lego_session.specs.Runs.{ending_text, is_ending_refused, IsDeveloped, Closes, IsClosing}
+use Rattle.lego_session.specs.Runs.{ending_text, is_ending_refused, IsDeveloped, IsClosing}
 use Rattle.lego_session.specs.Sessions.{Session, context_of}
 use Rattle.lego_session.specs.private.Gathered.{Gathers}
 use Rattle.lego_session.specs.private.Progress.{IsClosed, IsClosedInPart}

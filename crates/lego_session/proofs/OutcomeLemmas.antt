@@ -1,21 +1,20 @@
 -- What a call of `run` did, from what its parts did.
-use Rattle.std.proofs.Common.{◌≡◌, ◌≢◌, ℕ, ◌+◌, ◌≤◌, ◌<◌, Bool, true, false, ◌||◌, ◌&&◌, List, [], ◌∷◌, ◌++◌, length, take, drop, Option, None, Some, refl, sym, ap, ◌∙◌, subst, inl, inr, arith, append-nil, append_assoc, length-append, length-drop, length-take}
+use Rattle.std.proofs.Common.{◌≡◌, ◌≢◌, ℕ, ◌≤◌, Bool, true, false, ◌||◌, ◌&&◌, List, [], ◌++◌, length, take, drop, Option, None, Some, refl, sym, ap, ◌∙◌, subst, inl, inr, arith, append-nil, append_assoc, length-append, length-drop}
 use Rattle.std.specs.Prelude.{◌⊎◌, MatchBool}
 use Rattle.std.proofs.lemmas.Bool.{false≢true}
-use Rattle.std.proofs.lemmas.List.{take_all, take-append-drop}
+use Rattle.std.proofs.lemmas.List.{take-append-drop}
 use Rattle.std.specs.Io.KnownBytes.{Appends, Consumes, IsAtEnd, Keeps}
 use Rattle.std.proofs.KnownBytes.{Appends-nil, Appends-trans, Consumes-nil, Consumes-trans, Consumes-kept}
-use Rattle.lego_base.specs.Bytes.{AppendsFront}
 use Rattle.lego_base.specs.Causes.{Rose}
 use Rattle.lego_base.specs.Place.{behind}
 use Rattle.lego_lexer.specs.Commands.{CommandText, Cuts, Ending, HasEnded}
 use Rattle.lego_lexer.proofs.CutsExist.{scripts_cut}
 use Rattle.lego_words.specs.declared.options.Options.{Options}
 use Rattle.lego_grammar.specs.Grammar.{Names}
-use Rattle.lego_session.specs.Sessions.{Session, empty_session}
+use Rattle.lego_session.specs.Sessions.{Session}
 use Rattle.lego_session.specs.Step.{Reply}
 use Rattle.lego_session.specs.Texts.{first_place}
-use Rattle.lego_session.specs.Outcomes.{IsReadWhole, IsReadFor, IsReadToRefused, Completed, AnswersAll, Broken, Overlong, IsCutAmongAnswers, IsCutInClosing, CutOff, Outcome, IsAcceptable}
+use Rattle.lego_session.specs.Outcomes.{IsReadWhole, IsReadFor, IsReadToRefused, Completed, Broken, Overlong, CutOff, Outcome, IsAcceptable}
 use Rattle.lego_session.specs.private.Progress.{HasAnswered, HasAnsweredSome, IsUnderway, IsClosed, IsClosedInPart, IsFinished, IsPassed, IsEnded, IsStopped, IsHalted, IsOverlong, IsCounted}
 use Rattle.lego_session.specs.Runs.{Run, Runs, Closes, answers_text, refuses, some_refused, ends_early, is_ending_refused}
 use Rattle.lego_session.specs.declared.progress.Progress.{Progress}

@@ -1,4 +1,4 @@
-use Rattle.std.proofs.Common.{◌≡◌, ◌∙◌, length, refl, take, arith, subst, length-take, length-append}
+use Rattle.std.proofs.Common.{◌≡◌, ◌∙◌, refl, take, arith, subst, length-take, length-append}
 use Rattle.std.specs.Io.KnownBytes.{Consumes}
 use Rattle.lego_session.specs.private.Pending.{ending_of}
 use Rattle.lego_session.specs.private.Progress.{IsEnded}
