@@ -112,4 +112,4 @@ module _ (v : Assignment) where
 pub one_listing : (names : Names) (v w : Assignment) (es : List Item) (from : ℕ) (text other : List ℕ) → v ≡ w
     → AreEntryLines names v es from text → AreEntryLines names w es from other → text ≡ other
 one_listing names v w es from text other same p q =
-    p.is ∙ lines_alike v p.levels q.levels p.least (subst (λ (x : Assignment). IsLeast q.levels x) (sym same) q.least) (scope_among names es (take from es)) (laws_entries (drop from es)) ∙ sym q.is
+    p.is ∙ lines_alike v p.levels q.levels p.least (q.least ∙ sym same) (scope_among names es (take from es)) (laws_entries (drop from es)) ∙ sym q.is
