@@ -1,19 +1,15 @@
 -- Universes that are taken back.
-use Rattle.std.proofs.Common.{◌≡◌, ℕ, zero, suc, get_or, ◌+◌, ◌<◌, ◌≤◌, List, [], ◌∷◌, ◌++◌, All, take, length, inr, refl, sym, ap, ◌∙◌, subst, arith}
+use Rattle.std.proofs.Common.{◌≡◌, ℕ, ◌+◌, ◌<◌, ◌≤◌, List, [], ◌∷◌, ◌++◌, All, take, length, inr, refl, sym, ap, ◌∙◌, subst, arith}
 use Rattle.std.proofs.lemmas.List.{take_all, take-append-le, length-append}
 use Rattle.lego_base.specs.declared.place.Place.{Place}
 use Rattle.lego_laws.specs.Principal.{entries_bound}
-use Rattle.lego_laws.specs.Judgement.{Valid}
 use Rattle.lego_laws.specs.Valid.{AlwaysValid}
-use Rattle.std.proofs.lemmas.List.Elements.{All-nil}
 use Rattle.lego_inference.specs.declared.entry.Entry.{Entry as Item}
 use Rattle.lego_inference.specs.declared.entry.Universe.{Universe}
 use Rattle.lego_inference.specs.Entries.{laws_entries}
-use Rattle.lego_context.specs.Contexts.{Contents, IsContext, AreFrontsValid}
-use Rattle.lego_context.specs.Entries.{IsEntry}
+use Rattle.lego_context.specs.Contexts.{Contents, IsContext}
 use Rattle.lego_context.specs.Changes.{with_universe}
 use Rattle.lego_context.specs.Cutting.{CanBeCut, cut_of}
-use Rattle.lego_context.specs.Forgetting.{CanBeContext}
 
 module _ (c : Contents) (place : Place) where
   abbrev made : Universe
@@ -37,31 +33,6 @@ module _ (c : Contents) (place : Place) where
 
   pub taken_back : cut_of (with_universe c place) (length c.entries) (length c.universes) c.levels ≡ c
   taken_back = rw (same_entries, same_universes) refl
-
-no_value : (u : ℕ) → get_or {A = ℕ} [] u 0 ≡ 0
-no_value zero = refl
-no_value (suc u) = refl
-
-none_valid : AlwaysValid (laws_entries [])
-none_valid v h = record { valid = Valid.empty; bodies = tt }
-
--- each front of no entries is empty
-no_fronts : AreFrontsValid []
-no_fronts zero none = none_valid
-no_fronts (suc n) none = none_valid
-
-pub no_entries : CanBeContext [] []
-no_entries = record {
-  valid = none_valid;
-  fronts = no_fronts;
-  satisfiable = ([], tt, λ u. rw (no_value u) (omega arith));
-  names = tt;
-  numbers = tt;
-  kinds = All-nil IsEntry;
-  holes = tt;
-  few_entries = omega arith;
-  few_levels = omega arith;
-}
 
 -- the same, by what the calls answer
 pub can_take_back_to : (c new : Contents) (place : Place) (n u l : ℕ) → IsContext c → new ≡ with_universe c place → n ≡ length c.entries → u ≡ length c.universes → l ≡ c.levels → CanBeCut new n u l
