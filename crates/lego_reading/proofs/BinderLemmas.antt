@@ -1,5 +1,6 @@
 -- Binders of several names.
-use Rattle.std.proofs.Common.{◌≡◌, ℕ, zero, suc, ◌+◌, ◌-◌, ◌≤◌, ◌<◌, List, [], ◌∷◌, ◌++◌, length, take, drop, get_or, Option, Some, Result, Ok, Err, ◌≢◌, refl, sym, ap, ◌∙◌, subst, arith}
+use Rattle.std.proofs.Common.{◌≡◌, ℕ, zero, suc, ◌<◌, ◌==◌, true, List, [], ◌∷◌, ◌++◌, length, take, drop, get_or, Some, Result, ◌≢◌, refl, sym, ap, ◌∙◌, subst, arith}
+use Rattle.std.proofs.lemmas.Bool.{eqb-true}
 use Rattle.std.proofs.lemmas.List.{take-append-drop, append-nil, take_all, drop_all, length-drop}
 use Rattle.lego_term.specs.declared.binder.Mark.{Mark}
 use Rattle.lego_term.specs.Trees.{Core}
@@ -12,6 +13,11 @@ use Rattle.lego_reading.specs.declared.fault.ReadFault.{ReadFault}
 use Rattle.lego_reading.specs.private.Parts.{IsReading, Stops, Outcome, IsMade}
 use Rattle.lego_reading.specs.private.Binders.{inner_scope, AreDomains}
 use Rattle.lego_reading.proofs.PartLemmas.{domain_stops, named_bind_is, named_bind_stops}
+
+-- names that the code counts as none
+pub no_names : (names : List ℕ) → true ≡ (length names == 0) → names ≡ []
+no_names [] e = refl
+no_names (n ∷ names) e = absurd (omega (arith, eqb-true (suc (length names)) 0 (sym e)))
 
 pub inner-push : (scope : Scope) (names : List ℕ) (n : ℕ) → inner_scope scope (names ++ n ∷ []) ≡ LocalVariable.Bound (Some n) ∷ inner_scope scope names
 inner-push scope [] n = refl
@@ -98,6 +104,7 @@ module _ {es : List Entry} {types : TypeVariables} {s : Written} where
       where
         some : names ≢ []
         some = λ none. (let e = ap (λ (ns : List ℕ). length ns) none in omega (arith, l, e))
+
         rest : (ns : List ℕ) → 0 < length ns → Stops es types limit (inner_scope scope front) (under_first kind mark ns s t) f
         rest [] z = absurd (omega (arith, z))
         rest (n ∷ ns) z = domain_stops stops
@@ -123,5 +130,5 @@ module _ {es : List Entry} {types : TypeVariables} {s : Written} where
         → IsReading es types outer (Written.Bind kind mark names s t) made
     close_end outer names left made is some r =
         let last : IsReading es types outer (under_first kind mark names s t) made =
-          subst (λ n. IsReading es types (inner_scope outer (take n names)) (under_first kind mark (drop n names) s t) made) is r in
+        subst (λ n. IsReading es types (inner_scope outer (take n names)) (under_first kind mark (drop n names) s t) made) is r in
         subst (λ z. IsReading es types outer z made) (whole_binder kind mark s t names some) last

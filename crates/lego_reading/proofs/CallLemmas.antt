@@ -1,11 +1,9 @@
 -- The whole call.
-use Rattle.std.proofs.Common.{◌≡◌, ℕ, zero, suc, ◌+◌, ◌≤◌, ◌<◌, List, [], ◌∷◌, length, take, IsSome, Result, Ok, Err, refl, sym, ap, ◌∙◌, subst, arith}
+use Rattle.std.proofs.Common.{◌≡◌, ℕ, ◌+◌, ◌≤◌, ◌<◌, List, [], length, IsSome, Ok, Err, refl, sym, ap, ◌∙◌, subst, arith}
 use Rattle.std.specs.List.{AllByRecursion}
 use Rattle.lego_base.specs.declared.place.Place.{Place}
-use Rattle.lego_term.specs.Trees.{Core, loose}
+use Rattle.lego_term.specs.Trees.{Core}
 use Rattle.lego_grammar.specs.Written.{Written}
-use Rattle.lego_grammar.specs.Scopes.{Scope, TypeVariables}
-use Rattle.lego_laws.specs.Entries.{Entry}
 use Rattle.lego_inference.specs.Entries.{laws_entries}
 use Rattle.lego_context.specs.Contexts.{Contents, AreOverFronts}
 use Rattle.lego_reading.specs.declared.fault.ReadFault.{ReadFault}
@@ -13,7 +11,7 @@ use Rattle.lego_reading.specs.declared.fault.ReadFault.TheVariants as fault
 use Rattle.lego_reading.specs.Universes.{type_places, places_of, variables_for, with_universes}
 use Rattle.lego_reading.specs.Failures.{Fails}
 use Rattle.lego_reading.specs.Calls.{CanBeRead, HasRoom, IsUnread, Reads}
-use Rattle.lego_reading.specs.private.Parts.{IsReady, IsReading, Stops, ReadsAs}
+use Rattle.lego_reading.specs.private.Parts.{IsReady, IsReading, Stops}
 use Rattle.lego_reading.proofs.UniverseLemmas.{all_held}
 use Rattle.lego_reading.proofs.OverLemmas.{core_over}
 
@@ -35,8 +33,7 @@ module _ (c : Contents) (places : List Place) (s : Written) (limit : ℕ) (is : 
       → new ≡ with_universes c places → Reads c s limit new (Ok core)
   read_core core new le over can r e =
       let whole : IsReading (laws_entries c.entries) (variables_for c.levels (places_of s)) [] s core =
-        subst (λ ps. IsReading (laws_entries c.entries) (variables_for c.levels ps) [] s core) is r in
-      (
+      subst (λ ps. IsReading (laws_entries c.entries) (variables_for c.levels ps) [] s core) is r in (
         record {
           room = room le;
           within = whole.within;

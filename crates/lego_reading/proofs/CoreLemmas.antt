@@ -1,7 +1,6 @@
 -- What holds of each binder, constant and level that a written term says, and of those in the bodies of the entries, holds of the
 -- core's.
-use Rattle.std.proofs.Common.{◌≡◌, ℕ, IsTrue, List, [], ◌∷◌, map, Option, Some, None}
-use Rattle.std.specs.Prelude.{All}
+use Rattle.std.proofs.Common.{◌≡◌, ℕ, IsTrue, List, [], ◌∷◌, map, Some, None}
 use Rattle.std.proofs.lemmas.List.Elements.{All-head, All-tail}
 use Rattle.lego_base.specs.declared.place.Place.{Place}
 use Rattle.lego_term.specs.declared.binder.Binder.{Binder}
@@ -13,7 +12,7 @@ use Rattle.lego_laws.specs.Entries.{Entry, core_bodies}
 use Rattle.lego_grammar.specs.declared.surface.Kind.{Kind}
 use Rattle.lego_grammar.specs.declared.surface.Part.{Part}
 use Rattle.lego_grammar.specs.Written.{Written}
-use Rattle.lego_grammar.specs.Scopes.{LocalVariable, Scope, TypeVariables, entry_named}
+use Rattle.lego_grammar.specs.Scopes.{Scope, TypeVariables, entry_named}
 use Rattle.lego_grammar.specs.Reading.{binder, bind_core, project_core, under_first, ReadsExplicitly}
 use Rattle.lego_inference.specs.Binders.{BinderKind, EachPart, EachBinder}
 use Rattle.lego_inference.specs.Entries.{HoldsInEntries}

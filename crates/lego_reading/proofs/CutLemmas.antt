@@ -1,5 +1,5 @@
 -- Universes added to a context can be taken back.
-use Rattle.std.proofs.Common.{◌≡◌, ℕ, ◌+◌, ◌≤◌, ◌<◌, inr, List, [], ◌∷◌, ◌++◌, length, take, refl, sym, ap, ◌∙◌, subst, arith, length-append}
+use Rattle.std.proofs.Common.{◌≡◌, ℕ, ◌+◌, ◌≤◌, ◌<◌, inr, List, [], ◌∷◌, length, take, Err, refl, sym, ap, ◌∙◌, subst, arith, length-append}
 use Rattle.std.specs.Prelude.{All}
 use Rattle.std.proofs.lemmas.List.{take_all, take-append-le}
 use Rattle.lego_base.specs.declared.place.Place.{Place}
@@ -9,6 +9,9 @@ use Rattle.lego_inference.specs.declared.entry.Entry.{Entry as Item}
 use Rattle.lego_inference.specs.declared.entry.Universe.{Universe}
 use Rattle.lego_inference.specs.Entries.{laws_entries}
 use Rattle.lego_context.specs.Contexts.{Contents, IsContext}
+use Rattle.lego_inference.specs.declared.fault.TypeFault.{TypeFault}
+use Rattle.lego_inference.specs.declared.fault.TypeFault.TheVariants as fault
+use Rattle.lego_context.specs.Calls.{MakesLevel}
 use Rattle.lego_context.specs.Changes.{with_universe}
 use Rattle.lego_context.specs.Cutting.{CanBeCut, cut_of}
 use Rattle.lego_reading.specs.Universes.{with_universes}
@@ -52,3 +55,27 @@ can_be_cut c ps is = record {
 
 pub taken_back : (c : Contents) (ps : List Place) → cut_of (with_universes c ps) (length c.entries) (length c.universes) c.levels ≡ c
 taken_back c ps = λ z. record { entries = front_stays c ps z; universes = universes_stay c ps z; levels = c.levels }
+
+-- where no universe is added, the context stays
+pub no_level : (old new : Contents) (p : Place) (f : TypeFault) → MakesLevel old p new (Err f) → new ≡ old
+no_level old new p (fault.NotAType t g) h = absurd h
+no_level old new p (fault.NotAFunction t g) h = absurd h
+no_level old new p (fault.NotAPair t g) h = absurd h
+no_level old new p (fault.Mismatch t g w) h = absurd h
+no_level old new p (fault.Universe k) h = absurd h
+no_level old new p (fault.Budget l r) h = absurd h
+no_level old new p (fault.TooLarge i j) h = absurd h
+no_level old new p (fault.LevelTooBig k n) h = absurd h
+no_level old new p (fault.Full of held) h = h.3
+no_level old new p (fault.Circular n) h = absurd h
+no_level old new p (fault.NameInUse n) h = absurd h
+no_level old new p fault.Memory h = h
+
+-- the context to which some universes were added, by the numbers taken before
+module _ (c new : Contents) (ps : List Place) (entries universes levels : ℕ)
+    (grown : new ≡ with_universes c ps) (a : entries ≡ length c.entries) (b : universes ≡ length c.universes) (l : levels ≡ c.levels) where
+  pub cut_back : IsContext c → CanBeCut new entries universes levels
+  cut_back is = rw (grown, a, b, l) (can_be_cut c ps is)
+
+  pub cut_is : cut_of new entries universes levels ≡ c
+  cut_is = rw (grown, a, b, l) (taken_back c ps)

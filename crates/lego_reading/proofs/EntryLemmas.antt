@@ -1,9 +1,9 @@
 -- Entries by their names.
-use Rattle.std.proofs.Common.{◌≡◌, ℕ, zero, suc, ◌+◌, ◌<◌, ◌≤◌, Bool, true, false, nat_eq, nat_lt, cond, if◌then◌else◌, List, [], ◌∷◌, length, map, position, slice_get, Option, Some, None, option_map, refl, sym, ap, ◌∙◌, subst, arith}
+use Rattle.std.proofs.Common.{◌≡◌, ℕ, zero, suc, ◌+◌, Bool, true, false, nat_lt, if◌then◌else◌, List, [], ◌∷◌, length, position, slice_get, Option, Some, None, option_map, refl, sym, ap, ◌∙◌, arith}
 use Rattle.std.specs.List.{position_or_len}
 use Rattle.std.proofs.lemmas.Bool.Decides.{nat_tests}
 use Rattle.lego_laws.specs.Entries.{Entry}
-use Rattle.lego_grammar.specs.Scopes.{is_named, entry_named}
+use Rattle.lego_grammar.specs.Scopes.{entry_named}
 use Rattle.lego_inference.specs.declared.entry.Entry.{Entry as Item}
 use Rattle.lego_inference.specs.Entries.{laws_entry, laws_entries}
 use Rattle.lego_context.specs.Entries.{position_of}
@@ -50,7 +50,7 @@ entry_at [] n i e p at = cc
 entry_at (x ∷ es) n i e p at =
     let q : (if context.is_named n x then Some 0 else option_map suc (position_of es n)) ≡ Some i = sym (position-cons (context.is_named n) x es) ∙ p in
     elim (context.is_named n x) as (λ b. (if b then Some 0 else option_map suc (position_of es n)) ≡ Some i → slice_get (x ∷ es) i ≡ Some e
-      → (if b then Some (laws_entry x) else entry_named (laws_entries es) n) ≡ Some (laws_entry e)) [
+    → (if b then Some (laws_entry x) else entry_named (laws_entries es) n) ≡ Some (laws_entry e)) [
       | true ↦ λ h a. here i h a
       | false ↦ λ h a. later i (λ j z y. entry_at es n j e z y) h a
     ] q at
@@ -58,6 +58,7 @@ entry_at (x ∷ es) n i e p at =
     here : (i : ℕ) → ◌≡◌ {A = Option ℕ} (Some 0) (Some i) → slice_get (x ∷ es) i ≡ Some e → ◌≡◌ {A = Option Entry} (Some (laws_entry x)) (Some (laws_entry e))
     here zero h a = let same : x ≡ e = cc in ap (λ (z : Item). Some (laws_entry z)) same
     here (suc i) h a = let wrong : 0 ≡ suc i = cc in absurd (omega (arith, wrong))
+
     later : (i : ℕ) → ((j : ℕ) → position_of es n ≡ Some j → slice_get es j ≡ Some e → entry_named (laws_entries es) n ≡ Some (laws_entry e))
         → option_map suc (position_of es n) ≡ Some i → slice_get (x ∷ es) i ≡ Some e → entry_named (laws_entries es) n ≡ Some (laws_entry e)
     later zero go h a = absurd (not_zero (position_of es n) h)
@@ -68,7 +69,7 @@ no_entry [] n p = refl
 no_entry (x ∷ es) n p =
     let q : (if context.is_named n x then Some 0 else option_map suc (position_of es n)) ≡ None = sym (position-cons (context.is_named n) x es) ∙ p in
     elim (context.is_named n x) as (λ b. (if b then Some 0 else option_map suc (position_of es n)) ≡ None
-      → (if b then Some (laws_entry x) else entry_named (laws_entries es) n) ≡ None) [
+    → (if b then Some (laws_entry x) else entry_named (laws_entries es) n) ≡ None) [
       | true ↦ λ h. cc
       | false ↦ λ h. no_entry es n (none_before (position_of es n) h)
     ] q
@@ -86,6 +87,7 @@ is_there (x ∷ es) n i p none =
     here : (i : ℕ) → ◌≡◌ {A = Option ℕ} (Some 0) (Some i) → slice_get (x ∷ es) i ≡ None → ⊥
     here zero h a = cc
     here (suc i) h a = let wrong : 0 ≡ suc i = cc in omega (arith, wrong)
+
     later : (i : ℕ) → ((j : ℕ) → position_of es n ≡ Some j → slice_get es j ≡ None → ⊥) → option_map suc (position_of es n) ≡ Some i → slice_get (x ∷ es) i ≡ None → ⊥
     later zero go h a = not_zero (position_of es n) h
     later (suc i) go h a = go i (before (position_of es n) i h) a

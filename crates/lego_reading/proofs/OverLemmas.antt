@@ -1,10 +1,9 @@
 -- The core of a written term names only entries and level variables of the context, and its levels are small.
-use Rattle.std.proofs.Common.{◌≡◌, ℕ, zero, suc, max, ◌+◌, ◌≤◌, ◌<◌, Bool, true, false, nat_eq, if◌then◌else◌, List, [], ◌∷◌, length, take, position, slice_get, Option, Some, None, option_map, option_and_then, IsSome, IfSome, refl, sym, ap, ◌∙◌, subst, arith}
+use Rattle.std.proofs.Common.{◌≡◌, ℕ, zero, suc, ◌+◌, ◌≤◌, ◌<◌, Bool, true, false, nat_eq, if◌then◌else◌, List, [], ◌∷◌, length, take, position, slice_get, Option, Some, None, option_map, option_and_then, IsSome, IfSome, refl, sym, ◌∙◌, subst, arith}
 use Rattle.std.proofs.lemmas.Bool.Decides.{nat_tests}
 use Rattle.lego_base.specs.declared.place.Place.{Place}
 use Rattle.lego_term.specs.declared.binder.Binder.{Binder}
 use Rattle.lego_term.specs.declared.level.Level.{Level}
-use Rattle.lego_term.specs.Levels.{fixed_level, variable_level}
 use Rattle.lego_term.specs.Trees.{Core, Var, Const, Prop, Univ, Pi, Lam, App, Sigma, Pair, Fst, Snd, Let, loose}
 use Rattle.lego_laws.specs.Entries.{Entry, entry_of, core_bodies}
 use Rattle.lego_laws.specs.Ranges.{level_bound, levels_bound}
@@ -71,7 +70,7 @@ found es zero k h = cc
 found [] (suc at) k h = cc
 found (e ∷ es) (suc at) k h =
     elim (nat_eq e.number k) as (λ b. IsSome (if b then Some (laws_entry e) else entry_of (laws_entries (take at es)) k)
-      → IsSome (if b then Some (laws_entry e) else entry_of (laws_entries es) k)) [
+    → IsSome (if b then Some (laws_entry e) else entry_of (laws_entries es) k)) [
       | true ↦ λ i. refl
       | false ↦ λ i. found es at k i
     ] h
@@ -105,8 +104,10 @@ named_entry (x ∷ es) n e is =
   where
     itself : (k : ℕ) → nat_eq k k ≡ true
     itself k = grind (arith, nat_tests)
+
     here : Some x ≡ Some e → IsSome (entry_of (x ∷ es) e.number)
     here h = let same : x ≡ e = cc in subst (λ (y : Entry). IsSome (entry_of (x ∷ es) y.number)) same (rw (itself x.number) refl)
+
     later : (b : Bool) → IsSome (entry_of es e.number) → IsSome (if b then Some x else entry_of es e.number)
     later true h = refl
     later false h = h
@@ -138,7 +139,7 @@ module _ (c : Contents) where
       let is_over : IsTermOver (take found_body.at c.entries) [] c.levels t = some_body _ found_body.entry.body t (over found_body.at found_body.entry found_body.there).body found_body.body in
       parts_of_leaves (λ j. IsSome (entry_of (laws_entries c.entries) j)) n t
       (parts_follow {P = AnyBinder} {P' = AnyBinder} {C = λ j. IsSome (entry_of (laws_entries (take found_body.at c.entries)) j)}
-        {C' = λ j. IsSome (entry_of (laws_entries c.entries) j)} {L = λ l. l.plus ≤ 1000000} {L' = λ l. l.plus ≤ 1000000} (λ kind x i. i) (λ j h. found c.entries found_body.at j h) (λ l i. i) t is_over.names)
+      {C' = λ j. IsSome (entry_of (laws_entries c.entries) j)} {L = λ l. l.plus ≤ 1000000} {L' = λ l. l.plus ≤ 1000000} (λ kind x i. i) (λ j h. found c.entries found_body.at j h) (λ l i. i) t is_over.names)
       (let l = is_over.levels_within in omega arith)
 
   core_is_over : (ps : List Place) (s : Written) (core : Core) → AreOverFronts c → HasSmallLevels s
@@ -149,8 +150,8 @@ module _ (c : Contents) where
       let es = laws_entries c.entries in
       let C : ℕ → Type 0 = λ j. IsSome (entry_of es j) in
       let parts : EachPart AnyBinder C (IsHeldLevel n) core =
-        core_parts AnyBinder C (IsHeldLevel n) (λ k. k ≤ 1000000) es (variables_for c.levels ps) (each_body n (omega arith) over)
-          (λ m e is. named_entry es m e is) (λ p u is. (omega arith, variable_below c.levels ps p u is)) (λ m h. (h, omega arith)) r tt small in
+      core_parts AnyBinder C (IsHeldLevel n) (λ k. k ≤ 1000000) es (variables_for c.levels ps) (each_body n (omega arith) over)
+      (λ m e is. named_entry es m e is) (λ p u is. (omega arith, variable_below c.levels ps p u is)) (λ m h. (h, omega arith)) r tt small in
       record { names = leaves_of_parts C n core parts; variables = closed; levels_within = bound_of_parts C n core parts }
 
 pub core_over : (c : Contents) (ps : List Place) (s : Written) (core : Core) → AreOverFronts c → HasSmallLevels s

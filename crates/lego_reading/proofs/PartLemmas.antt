@@ -1,23 +1,23 @@
 -- The reading of a written term from that of its parts.
-use Rattle.std.proofs.Common.{◌≡◌, ℕ, suc, pred, max, ◌≤◌, ◌⊎◌, inl, inr, List, [], ◌∷◌, length, Result, Ok, Err, OnOk, Option, Some, None, true, refl, sym, ap, subst, arith}
+use Rattle.std.proofs.Common.{◌≡◌, ℕ, pred, max, ◌≤◌, ◌⊎◌, inl, inr, List, [], ◌∷◌, length, Result, Ok, Err, OnOk, Some, None, refl, sym, subst, arith}
 use Rattle.lego_base.specs.declared.place.Place.{Place}
 use Rattle.lego_term.specs.Levels.{fixed_level, variable_level}
 use Rattle.lego_term.specs.declared.binder.Binder.{Binder}
 use Rattle.lego_term.specs.declared.binder.Mark.{Mark}
 use Rattle.lego_term.specs.declared.binder.Mark.TheVariants.{Plain}
-use Rattle.lego_term.specs.Trees.{Core, Var, Const, Prop, Univ, Sigma, Pair, App, Let, size, depth, loose}
+use Rattle.lego_term.specs.Trees.{Core, Prop, Univ, Sigma, Pair, App, Let, size, depth, loose}
 use Rattle.lego_term.specs.Made.{Fits, Passes}
 use Rattle.lego_laws.specs.Entries.{Entry}
 use Rattle.lego_grammar.specs.declared.surface.Kind.{Kind}
 use Rattle.lego_grammar.specs.declared.surface.Part.{Part}
 use Rattle.lego_grammar.specs.Written.{Written}
 use Rattle.lego_grammar.specs.Scopes.{LocalVariable, Scope, TypeVariables, local_named, entry_named}
-use Rattle.lego_grammar.specs.Reading.{binder, bind_core, project_core, under_first, is_sigma, Annotates, ReadsExplicitly}
+use Rattle.lego_grammar.specs.Reading.{binder, bind_core, project_core, under_first, Annotates, ReadsExplicitly}
 use Rattle.lego_grammar.specs.ReadingOrder.{Comes, IsPart, Reaches, ReadsWithin, ReadingRefusal, Refuses, IsRefused}
 use Rattle.lego_grammar.proofs.ReadOnce.{one_core}
 use Rattle.lego_reading.specs.declared.fault.ReadFault.{ReadFault}
 use Rattle.lego_reading.specs.declared.fault.ReadFault.TheVariants as fault
-use Rattle.lego_reading.specs.Failures.{Fails, HasNoHeadForm, seen_in}
+use Rattle.lego_reading.specs.Failures.{Fails}
 use Rattle.lego_reading.specs.private.Annotations.{IsNotAnnotated}
 use Rattle.lego_reading.specs.private.Parts.{IsReading, Stops, Outcome, IsMade}
 
@@ -68,7 +68,7 @@ module _ {es : List Entry} {types : TypeVariables} where
       → i ≡ size c → j ≡ depth c → Passes c → Stops es types limit scope s (fault.TooLarge i j)
   too_large {limit} {scope} {s} {c} i j r small a b p =
       let others : (inner : Scope) (q : Written) (d : Core) → IsPart es types scope s inner q → ReadsExplicitly es types inner q d → Passes d → d ≡ c
-          = λ inner q d path e over. elim (small inner q d path e) [ inl same ↦ same | inr f ↦ absurd (fits_not_passes d f over) ] in
+      = λ inner q d path e over. elim (small inner q d path e) [ inl same ↦ same | inr f ↦ absurd (fits_not_passes d f over) ] in
       let told : Stops es types limit scope s (fault.TooLarge (size c) (depth c)) = Stops.fails (Fails.refused {refusal = ReadingRefusal.TooLarge c} (refused_as (Refuses.too_large r p others))) in
       subst (λ n. Stops es types limit scope s (fault.TooLarge n j)) (sym a) (subst (λ n. Stops es types limit scope s (fault.TooLarge (size c) n)) (sym b) told)
 
@@ -112,6 +112,7 @@ module _ {es : List Entry} {types : TypeVariables} where
     where
       reads : ReadsExplicitly es types scope (Written.Bind kind mark [] s t) (bind_core kind (binder None mark) a b)
       reads = ReadsExplicitly.nameless ra.within.reads rb.within.reads
+
       small : IsSmall es types scope (Written.Bind kind mark [] s t) (bind_core kind (binder None mark) a b)
       small _ _ d Comes.here e = inl (one_core e reads)
       small inner q d (Comes.domain p) e = inr (ra.within.small inner q d p e)
@@ -135,6 +136,7 @@ module _ {es : List Entry} {types : TypeVariables} where
     where
       reads : ReadsExplicitly es types scope (Written.Bind kind mark (n ∷ names) s t) (bind_core kind (binder (Some n) mark) a b)
       reads = ReadsExplicitly.named ra.within.reads rb.within.reads
+
       small : IsSmall es types scope (Written.Bind kind mark (n ∷ names) s t) (bind_core kind (binder (Some n) mark) a b)
       small _ _ d Comes.here e = inl (one_core e reads)
       small inner q d (Comes.domain p) e = inr (ra.within.small inner q d p e)
@@ -153,6 +155,7 @@ module _ {es : List Entry} {types : TypeVariables} where
     where
       reads : ReadsExplicitly es types scope (Written.Local n s t) (Let (binder (Some n) Plain) m b)
       reads = ReadsExplicitly.local_definition rm.within.reads rb.within.reads
+
       small : IsSmall es types scope (Written.Local n s t) (Let (binder (Some n) Plain) m b)
       small _ _ d Comes.here e = inl (one_core e reads)
       small inner q d (Comes.value p) e = inr (rm.within.small inner q d p e)
@@ -176,6 +179,7 @@ module _ {es : List Entry} {types : TypeVariables} where
     where
       reads : ReadsExplicitly es types scope (Written.Apply mark s t) (App mark f a)
       reads = ReadsExplicitly.apply rf.within.reads ra.within.reads
+
       small : IsSmall es types scope (Written.Apply mark s t) (App mark f a)
       small _ _ d Comes.here e = inl (one_core e reads)
       small inner q d (Comes.function p) e = inr (rf.within.small inner q d p e)
@@ -197,6 +201,7 @@ module _ {es : List Entry} {types : TypeVariables} where
     where
       reads : ReadsExplicitly es types scope (Written.Project part s) (project_core part m)
       reads = ReadsExplicitly.project rm.within.reads
+
       small : IsSmall es types scope (Written.Project part s) (project_core part m)
       small _ _ d Comes.here e = inl (one_core e reads)
       small inner q d (Comes.operand p) e = inr (rm.within.small inner q d p e)
@@ -215,6 +220,7 @@ module _ {es : List Entry} {types : TypeVariables} where
     where
       reads : ReadsExplicitly es types scope (Written.Pair r s t) (Pair x a b m n)
       reads = ReadsExplicitly.pair rc.within.reads k rm.within.reads rn.within.reads
+
       small : IsSmall es types scope (Written.Pair r s t) (Pair x a b m n)
       small _ _ d Comes.here e = inl (one_core e reads)
       small inner q d (Comes.pair_type p) e = inr (rc.within.small inner q d p e)

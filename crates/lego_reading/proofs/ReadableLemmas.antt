@@ -1,18 +1,16 @@
 -- The written terms of a command that stands for tokens within the limits can be read.
-use Rattle.std.proofs.Common.{◌≡◌, ℕ, zero, suc, max, ◌+◌, ◌*◌, ◌-◌, ◌≤◌, Bool, true, false, if◌then◌else◌, List, [], ◌∷◌, ◌++◌, length, map, Some, None, refl, sym, ap, ◌∙◌, subst, arith}
+use Rattle.std.proofs.Common.{◌≡◌, ℕ, suc, ◌+◌, ◌*◌, ◌-◌, ◌≤◌, Bool, true, false, if◌then◌else◌, List, [], ◌∷◌, ◌++◌, length, map, arith}
 use Rattle.std.specs.Prelude.{All}
 use Rattle.std.specs.List.{AllByRecursion}
 use Rattle.std.proofs.lemmas.List.Elements.{All-nil, All-cons, recursion_from_All}
-use Rattle.lego_base.specs.declared.place.Place.{Place}
 use Rattle.lego_lexer.specs.declared.token.Word.{Word}
 use Rattle.lego_lexer.specs.declared.token.Symbol.TheVariants.{CloseSquare, CloseParen, Colon, Semicolon, Comma, Dot, Hash, Arrow, Bar}
 use Rattle.lego_lexer.specs.Tokens.{Number}
 use Rattle.lego_term.specs.declared.binder.Mark.TheVariants.{Plain}
 use Rattle.lego_term.specs.declared.binder.Binder.{Binder}
-use Rattle.lego_grammar.specs.declared.command.Command.{Command}
 use Rattle.lego_grammar.specs.Written.{Written, NameAt, WrittenBinding, WrittenAct, WrittenCommand}
-use Rattle.lego_grammar.specs.Grammar.{Names, Nested, token, symbol, sign, closing, Item, item, Form, Reads, NameList, names_of, ReadsBinding, ReadsBindings, TermWord, NumberWord, NameWord, LoneWord, ReadsAct, ReadsCommand}
-use Rattle.lego_grammar.specs.WrittenForm.{is_name, count_names, IsSmall, IsWrittenForm}
+use Rattle.lego_grammar.specs.Grammar.{Names, Nested, token, symbol, sign, closing, item, Form, Reads, NameList, names_of, ReadsBinding, ReadsBindings, TermWord, NumberWord, NameWord, LoneWord, ReadsAct, ReadsCommand}
+use Rattle.lego_grammar.specs.WrittenForm.{is_name, count_names, IsSmall}
 use Rattle.lego_reading.specs.Calls.{locals_within, CanBeRead}
 use Rattle.lego_reading.specs.Written.{written_binders, HasSmallLevels}
 use Rattle.lego_reading.specs.Readable.{CanKindBeRead, CanActBeRead, ParsedTermsCanBeRead}

@@ -1,5 +1,5 @@
 -- What a reading asks holds of the parts.
-use Rattle.std.proofs.Common.{◌≡◌, ℕ, suc, max, ◌+◌, ◌≤◌, List, [], ◌∷◌, ◌++◌, length, map, Some, None, IsSome, refl, sym, ap, ◌∙◌, subst, arith}
+use Rattle.std.proofs.Common.{◌≡◌, ℕ, zero, suc, ◌+◌, ◌≤◌, ◌<◌, List, [], ◌∷◌, ◌++◌, length, map, get_or, Some, None, IsSome, sym, subst, arith}
 use Rattle.std.specs.List.{AllByRecursion}
 use Rattle.lego_base.specs.declared.place.Place.{Place}
 use Rattle.lego_term.specs.declared.binder.Mark.{Mark}
@@ -7,14 +7,14 @@ use Rattle.lego_term.specs.Trees.{Core, loose}
 use Rattle.lego_grammar.specs.declared.surface.Kind.{Kind}
 use Rattle.lego_grammar.specs.declared.surface.Part.{Part}
 use Rattle.lego_grammar.specs.Written.{Written}
-use Rattle.lego_grammar.specs.Surface.{applied, projected}
+use Rattle.lego_grammar.specs.Surface.{written, applied, projected}
+use Rattle.lego_grammar.specs.declared.surface.Surface.{Surface}
 use Rattle.lego_grammar.specs.Scopes.{LocalVariable, Scope}
 use Rattle.lego_context.specs.Contexts.{Contents}
 use Rattle.lego_reading.specs.Universes.{type_places, variables_for}
-use Rattle.lego_reading.specs.Calls.{locals_within}
 use Rattle.lego_reading.specs.private.Variables.{AreOver}
 use Rattle.lego_reading.specs.private.Parts.{IsReady}
-use Rattle.lego_reading.specs.private.Binders.{inner_scope}
+use Rattle.lego_reading.specs.private.Binders.{inner_scope, written_argument}
 
 module _ {X : Type 0} (P : X → Type 0) where
   pub every_left : (xs ys : List X) → AllByRecursion P (xs ++ ys) → AllByRecursion P xs
@@ -81,6 +81,14 @@ module _ {c : Contents} {places : List Place} where
   pub ready_applied : {scope : Scope} (f : Written) (xs : List (Mark × Written)) → IsReady c places scope (applied f xs) → IsReady c places scope f
   ready_applied f [] r = r
   ready_applied f (x ∷ xs) r = ready_function (ready_applied (Written.Apply x.0 f x.1) xs r)
+
+  pub ready_item : {scope : Scope} (f : Written) (xs : List (Mark × Surface)) (i : ℕ) (x : Mark × Surface) → i < length xs → x ≡ get_or xs i x
+      → IsReady c places scope (applied f (map written_argument xs)) → IsReady c places scope (written x.1)
+  ready_item f [] i x l is r = absurd (omega (arith, l))
+  ready_item {scope} f (y ∷ xs) zero x l is r =
+      subst (λ (z : Mark × Surface). IsReady c places scope (written z.1)) (sym is)
+      (ready_argument (ready_applied (Written.Apply y.0 f (written y.1)) (map written_argument xs) r))
+  ready_item f (y ∷ xs) (suc i) x l is r = ready_item (Written.Apply y.0 f (written y.1)) xs i x (omega arith) is r
 
   pub ready_projected : {scope : Scope} (s : Written) (parts : List Part) → IsReady c places scope (projected s parts) → IsReady c places scope s
   ready_projected s [] r = r

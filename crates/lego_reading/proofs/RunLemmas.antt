@@ -1,6 +1,6 @@
 -- Applications to several arguments, and runs of projections.
-use Rattle.std.proofs.Common.{◌≡◌, ℕ, ◌+◌, ◌<◌, ◌≤◌, List, [], ◌∷◌, ◌++◌, length, map, take, drop, get_or, Result, Ok, Err, refl, sym, ap, ◌∙◌, subst, arith}
-use Rattle.std.proofs.lemmas.List.{take-append-drop, take_more, take_all, map-append}
+use Rattle.std.proofs.Common.{◌≡◌, ℕ, ◌+◌, ◌<◌, List, [], ◌∷◌, ◌++◌, length, map, take, drop, get_or, Result, refl, sym, ap, ◌∙◌, subst}
+use Rattle.std.proofs.lemmas.List.{take-append-drop, take_more, map-append}
 use Rattle.lego_term.specs.declared.binder.Mark.{Mark}
 use Rattle.lego_term.specs.Trees.{Core, App}
 use Rattle.lego_laws.specs.Entries.{Entry}
@@ -45,7 +45,7 @@ module _ {es : List Entry} {types : TypeVariables} {scope : Scope} where
   arguments_stop {limit} {f} m xs n h =
       subst (λ z. Stops es types limit scope z f)
       (sym (applied-append m (map written_argument (take n xs)) (map written_argument (drop n xs)))
-        ∙ ap (applied m) (sym (map-append written_argument (take n xs) (drop n xs)) ∙ ap (map written_argument) (take-append-drop n xs)))
+      ∙ ap (applied m) (sym (map-append written_argument (take n xs) (drop n xs)) ∙ ap (map written_argument) (take-append-drop n xs)))
       (under_arguments (applied m (map written_argument (take n xs))) (map written_argument (drop n xs)) h)
 
   -- one projection more
@@ -63,6 +63,14 @@ module _ {es : List Entry} {types : TypeVariables} {scope : Scope} where
       → IsMade (App (get_or xs i d).0 m a) result → Outcome es types limit scope (applied f (map written_argument (take (i + 1) xs))) result
   argument_more limit f xs i d result l r a made =
       subst (λ z. Outcome es types limit scope z result) (sym (arguments-push f xs i d l)) (apply_is limit (get_or xs i d).0 result r a made)
+
+  -- the same for an argument that was read from the list
+  pub item_more : (limit : ℕ) {m a : Core} (f : Written) (xs : List (Mark × Surface)) (i : ℕ) (x : Mark × Surface) (result : Result Core ReadFault) → i < length xs
+      → x ≡ get_or xs i x → IsReading es types scope (applied f (map written_argument (take i xs))) m → IsReading es types scope (written x.1) a
+      → IsMade (App x.0 m a) result → Outcome es types limit scope (applied f (map written_argument (take (i + 1) xs))) result
+  item_more limit {m} {a} f xs i x result l is r q made =
+      argument_more limit f xs i x result l r (subst (λ (y : Mark × Surface). IsReading es types scope (written y.1) a) is q)
+      (subst (λ (y : Mark × Surface). IsMade (App y.0 m a) result) is made)
 
   pub argument_halts : {limit : ℕ} {m : Core} {x : ReadFault} (f : Written) (xs : List (Mark × Surface)) (i : ℕ) (d : Mark × Surface) → i < length xs
       → IsReading es types scope (applied f (map written_argument (take i xs))) m → Stops es types limit scope (written (get_or xs i d).1) x

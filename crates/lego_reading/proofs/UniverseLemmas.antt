@@ -1,5 +1,5 @@
 -- The places of written `Type`s, and their level variables.
-use Rattle.std.proofs.Common.{◌≡◌, ℕ, zero, suc, ◌+◌, ◌≤◌, ◌<◌, Bool, true, false, ◌||◌, nat_eq, if◌then◌else◌, List, [], ◌∷◌, ◌++◌, length, map, take, get_or, position, Option, Some, None, option_map, IsSome, refl, sym, ap, ◌∙◌, subst, arith}
+use Rattle.std.proofs.Common.{◌≡◌, ℕ, suc, ◌+◌, ◌<◌, Bool, true, false, ◌||◌, nat_eq, if◌then◌else◌, List, [], ◌∷◌, ◌++◌, length, map, take, get_or, position, Option, Some, None, option_map, IsSome, Result, Ok, Err, OnOk, refl, sym, ap, ◌∙◌, subst, arith}
 use Rattle.std.specs.List.{AllByRecursion, list_any}
 use Rattle.std.proofs.lemmas.List.{append_assoc, append-nil, map-append, take_more}
 use Rattle.std.proofs.lemmas.List.Folds.{list_any-append}
@@ -12,7 +12,7 @@ use Rattle.lego_grammar.specs.Written.{Written}
 use Rattle.lego_grammar.specs.Surface.{written, applied, projected}
 use Rattle.lego_context.specs.Contexts.{Contents}
 use Rattle.lego_context.specs.Changes.{with_universe}
-use Rattle.lego_reading.specs.Universes.{type_places, is_place, with_place, with_places, places_of, variables_for, with_universes}
+use Rattle.lego_reading.specs.Universes.{type_places, is_place, with_place, with_places, variables_for, with_universes}
 use Rattle.lego_reading.specs.private.Binders.{written_argument}
 use Rattle.lego_reading.proofs.EntryLemmas.{position-cons}
 
@@ -35,6 +35,41 @@ projected-push m (p ∷ parts) part = projected-push (Written.Project p m) parts
 pub projected-places : (m : Written) (parts : List Part) → type_places (projected m parts) ≡ type_places m
 projected-places m [] = refl
 projected-places m (part ∷ parts) = projected-places (Written.Project part m) parts
+
+-- the places in arguments
+abbrev pub argument_places : List (Mark × Surface) → List Place
+argument_places [] = []
+argument_places (x ∷ xs) = type_places (written x.1) ++ argument_places xs
+
+pub applied-places : (f : Written) (xs : List (Mark × Surface)) → type_places (applied f (map written_argument xs)) ≡ type_places f ++ argument_places xs
+applied-places f [] = sym (append-nil (type_places f))
+applied-places f (x ∷ xs) = applied-places (Written.Apply x.0 f (written x.1)) xs ∙ append_assoc (type_places f) (type_places (written x.1)) (argument_places xs)
+
+argument_places-append : (xs ys : List (Mark × Surface)) → argument_places (xs ++ ys) ≡ argument_places xs ++ argument_places ys
+argument_places-append [] ys = refl
+argument_places-append (x ∷ xs) ys =
+    ap (λ ps. type_places (written x.1) ++ ps) (argument_places-append xs ys) ∙ sym (append_assoc (type_places (written x.1)) (argument_places xs) (argument_places ys))
+
+argument_places-more : (xs : List (Mark × Surface)) (i : ℕ) (d : Mark × Surface) → i < length xs
+    → argument_places (take (i + 1) xs) ≡ argument_places (take i xs) ++ type_places (written (get_or xs i d).1)
+argument_places-more xs i d l =
+    ap argument_places (take_more xs i d l) ∙ argument_places-append (take i xs) (get_or xs i d ∷ [])
+    ∙ ap (λ ps. argument_places (take i xs) ++ ps) (append-nil (type_places (written (get_or xs i d).1)))
+
+pub ok_then : {T X P Q : Type 0} (r : Result T X) → (P → Q) → OnOk r P → OnOk r Q
+ok_then (Ok x) f p = f p
+ok_then (Err e) f p = tt
+
+-- the places of one part behind those of another
+pub then_places : (start mid new xs ys zs : List Place) → zs ≡ xs ++ ys → mid ≡ with_places start xs → new ≡ with_places mid ys → new ≡ with_places start zs
+then_places start mid new xs ys zs e m n =
+    n ∙ ap (λ held. with_places held ys) m ∙ sym (places-append start xs ys) ∙ ap (with_places start) (sym e)
+
+pub argument_gathered : (start mid new : List Place) (xs : List (Mark × Surface)) (i : ℕ) (x : Mark × Surface) → i < length xs → x ≡ get_or xs i x
+    → mid ≡ with_places start (argument_places (take i xs)) → new ≡ with_places mid (type_places (written x.1)) → new ≡ with_places start (argument_places (take (i + 1) xs))
+argument_gathered start mid new xs i x l is m n =
+    then_places start mid new (argument_places (take i xs)) (type_places (written x.1)) (argument_places (take (i + 1) xs))
+    (argument_places-more xs i x l ∙ ap (λ (y : Mark × Surface). argument_places (take i xs) ++ type_places (written y.1)) (sym is)) m n
 
 -- one argument more
 pub arguments-push : (f : Written) (xs : List (Mark × Surface)) (i : ℕ) (d : Mark × Surface) → i < length xs
@@ -76,6 +111,7 @@ module _ (q : Place → Bool) where
       mapped : (o : Option ℕ) (f : ℕ → ℕ) → IsSome o → IsSome (option_map f o)
       mapped (Some i) f h = h
       mapped None f h = h
+
       there : (ps : List Place) → list_any q ps ≡ true → IsSome (position q ps)
       there [] h = cc
       there (p ∷ ps) h =
@@ -84,6 +120,7 @@ module _ (q : Place → Bool) where
             | true ↦ λ e. refl
             | false ↦ λ e. mapped (position q ps) suc (there ps e)
           ] h)
+
       found : (ps : List Place) (n : ℕ) → list_any q ps ≡ true → IsSome (option_map (λ i. n + i) (position q ps))
       found ps n h = mapped (position q ps) (λ i. n + i) (there ps h)
 

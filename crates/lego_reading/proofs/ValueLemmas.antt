@@ -1,5 +1,5 @@
 -- Values put for the variables of local definitions.
-use Rattle.std.proofs.Common.{◌≡◌, ℕ, zero, suc, pred, max, ◌+◌, ◌-◌, ◌≤◌, ◌<◌, nat_lt, nat_eq, true, false, if◌then◌else◌, List, [], ◌∷◌, ◌++◌, length, take, slice_get, Option, Some, None, Result, Ok, Err, IfOk, IfErr, refl, sym, ap, ◌∙◌, subst, arith}
+use Rattle.std.proofs.Common.{◌≡◌, ℕ, zero, suc, max, ◌+◌, ◌-◌, ◌≤◌, ◌<◌, nat_lt, nat_eq, true, false, if◌then◌else◌, [], ◌∷◌, length, take, slice_get, Option, Some, None, Result, Ok, Err, IfOk, IfErr, refl, sym, ap, ◌∙◌, subst, arith}
 use Rattle.std.proofs.lemmas.Bool.Decides.{nat_tests}
 use Rattle.std.proofs.lemmas.List.{take_all}
 use Rattle.lego_term.specs.Trees.{Core, Var, Const, Prop, Univ, Pi, Lam, App, Sigma, Pair, Fst, Snd, Let, size, depth, loose, lift, put, put_var}
@@ -55,16 +55,16 @@ lift_twice k n m (Let x a b) is = let p = lift_twice k n m a is in let q = lift_
 kept_var : (at : ℕ) (v : Core) (i : ℕ) → lift at 1 (put_var at v i) ≡ value_or_var v at i
 kept_var at v i =
     elim (nat_lt i at) as (λ b. nat_lt i at ≡ b
-      → ◌≡◌ {A = Core} (lift at 1 (if b then Var i else if nat_eq i at then lift 0 at v else Var (i - 1))) (if nat_eq i at then lift 0 (suc at) v else Var i)) [
+    → ◌≡◌ {A = Core} (lift at 1 (if b then Var i else if nat_eq i at then lift 0 at v else Var (i - 1))) (if nat_eq i at then lift 0 (suc at) v else Var i)) [
       | true ↦ λ e. (
-        let below : i < at = grind (arith, nat_tests) in rw (eq_false i at (λ same. omega arith), lt_true i at below) refl)
+          let below : i < at = grind (arith, nat_tests) in rw (eq_false i at (λ same. omega arith), lt_true i at below) refl)
       | false ↦ λ e. (
-        let above : at ≤ i = grind (arith, nat_tests) in
-        elim (nat_eq i at) as (λ b. nat_eq i at ≡ b → ◌≡◌ {A = Core} (lift at 1 (if b then lift 0 at v else Var (i - 1))) (if b then lift 0 (suc at) v else Var i)) [
-          | true ↦ λ f. lift_twice 0 at at v (omega arith)
-          | false ↦ λ f. (
-            let other : at < i = grind (arith, nat_tests) in rw (lt_false (i - 1) at (omega arith)) (ap Var (omega arith)))
-        ] refl)
+          let above : at ≤ i = grind (arith, nat_tests) in
+          elim (nat_eq i at) as (λ b. nat_eq i at ≡ b → ◌≡◌ {A = Core} (lift at 1 (if b then lift 0 at v else Var (i - 1))) (if b then lift 0 (suc at) v else Var i)) [
+            | true ↦ λ f. lift_twice 0 at at v (omega arith)
+            | false ↦ λ f. (
+                let other : at < i = grind (arith, nat_tests) in rw (lt_false (i - 1) at (omega arith)) (ap Var (omega arith)))
+          ] refl)
     ] refl
 
 pub kept : (at : ℕ) (v t : Core) → lift at 1 (put at v t) ≡ put_kept at v t

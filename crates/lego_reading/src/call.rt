@@ -26,12 +26,7 @@ const MAX_LEVELS: u32 = 1_048_576;
 ///
 /// Refused: first `Full`; then what the reading comes to first: `UnknownName`, `UnknownGoal`,
 /// `NotSigma`, `TooLarge`, `Budget`; `Memory` at any point. Then the context is as it was.
-pub fn read(
-    alloc: Global,
-    context: &mut Context,
-    s: &Surface,
-    asked: At,
-) -> Result<Term, ReadFault>
+pub fn read(alloc: Global, context: &mut Context, s: &Surface, asked: At) -> Result<Term, ReadFault>
     requires { CanBeRead (written s.now) }
     ensures { Reads context.old (written s.now) asked.limit context.new result }
 {

@@ -62,11 +62,7 @@ pub(crate) fn any_type(
 }
 
 /// `Type(level)`.
-pub(crate) fn type_at(
-    setting: &Setting<'_>,
-    scope: &Scope,
-    level: u32,
-) -> Result<Term, ReadFault>
+pub(crate) fn type_at(setting: &Setting<'_>, scope: &Scope, level: u32) -> Result<Term, ReadFault>
     ensures { ReadsAs setting.now.context.now setting.now.places.now setting.now.limit scope.now (TypeAt level) result }
 {
     let level = Level {

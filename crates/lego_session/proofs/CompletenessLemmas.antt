@@ -5,7 +5,7 @@ use Rattle.lego_base.specs.declared.place.Place.{Place}
 use Rattle.lego_term.specs.Trees.{Core}
 use Rattle.lego_laws.specs.Places.{Task}
 use Rattle.lego_grammar.specs.Grammar.{Names}
-use Rattle.lego_grammar.specs.Written.{Written, WrittenKind, WrittenBinding, WrittenAct, Bindings, Hnf, Normal, Show, WrittenCommand}
+use Rattle.lego_grammar.specs.Written.{Written, WrittenKind, Defined, WrittenBinding, WrittenAct, Bindings, Hnf, Normal, Show, WrittenCommand}
 use Rattle.lego_grammar.proofs.ReadOnce.{one_core}
 use Rattle.lego_grammar.proofs.ReadingRefusals.{refusals_exclude_reading}
 use Rattle.lego_inference.specs.declared.entry.At.{At}
@@ -31,15 +31,15 @@ use Rattle.lego_session.specs.declared.refusal.Cause.{Cause}
 use Rattle.lego_session.specs.declared.refusal.Refusal.{Refusal}
 use Rattle.lego_session.specs.declared.session.Answer.{Answer}
 
-no_typing : {t : Task} {cause : Cause} → HasTyping t → HasNoTyping t → IsOfLimits cause
-no_typing h n = absurd (n h.values h.satisfies h.typed)
+no_typing : {t : Task} → HasTyping t → HasNoTyping t → ⊥
+no_typing h n = n h.values h.satisfies h.typed
 
 -- a check of a core that has a typing
 check_is_of_limits : {limit : ℕ} {t : Task} {fault : TypeFault} → HasTyping t → TypeFails limit t fault → IsOfLimits (cause_of fault)
-check_is_of_limits h (TypeFails.not_a_type reached wrong) = no_typing h wrong.no_typing
-check_is_of_limits h (TypeFails.not_a_function reached wrong) = no_typing h wrong.no_typing
-check_is_of_limits h (TypeFails.not_a_pair reached wrong) = no_typing h wrong.no_typing
-check_is_of_limits h (TypeFails.mismatch reached wrong) = no_typing h wrong.no_typing
+check_is_of_limits h (TypeFails.not_a_type reached wrong) = absurd (no_typing h wrong.no_typing)
+check_is_of_limits h (TypeFails.not_a_function reached wrong) = absurd (no_typing h wrong.no_typing)
+check_is_of_limits h (TypeFails.not_a_pair reached wrong) = absurd (no_typing h wrong.no_typing)
+check_is_of_limits h (TypeFails.mismatch reached wrong) = absurd (no_typing h wrong.no_typing)
 check_is_of_limits h (TypeFails.budget reached over) = tt
 check_is_of_limits h (TypeFails.too_large large) = tt
 check_is_of_limits h (TypeFails.full measured full) = tt
@@ -47,7 +47,7 @@ check_is_of_limits h TypeFails.memory = tt
 
 typing_is_of_limits : {es : List Item} {t : Task} {asked : At} {fault : TypeFault} → HasTyping t → TypingFails es t asked fault → IsOfLimits (cause_of fault)
 typing_is_of_limits h (TypingFails.check fails) = check_is_of_limits h fails
-typing_is_of_limits h (TypingFails.universe cause) = no_typing h cause.no_typing
+typing_is_of_limits h (TypingFails.universe cause) = absurd (no_typing h cause.no_typing)
 typing_is_of_limits h (TypingFails.level_too_big cause) = tt
 
 entry_is_of_limits : {es : List Item} {name : ℕ} {t : Task} {asked : At} {fault : TypeFault} → HasTyping t → AddFails es name t asked fault → IsOfLimits (cause_of fault)
@@ -87,6 +87,12 @@ written_is_of_limits : {old mid : Contents} {m t : Written} {body : Core} {ty : 
     → ReadsDefinition old m (Some t) body ty mid → IsUnread (with_types_of old m) t limit fault → IsOfLimits (read_cause fault)
 written_is_of_limits (ReadsDefinition.typed p r) u = unread_is_of_limits r u
 
+definition_is_of_limits : {limit : ℕ} {old mid : Contents} {place p : Place} {names : List ℕ} {m : Written} {t : Option Written} {body : Core} {ty : Option Core} {cause : Cause}
+    → ReadsDefinition old m t body ty mid → HasTyping (body_task mid body ty) → AreEntriesRefused limit old place names (Defined m t) p cause → IsOfLimits cause
+definition_is_of_limits d h (AreEntriesRefused.body_unread u) = body_is_of_limits d u
+definition_is_of_limits d h (AreEntriesRefused.written_unread r u) = written_is_of_limits d u
+definition_is_of_limits d h (AreEntriesRefused.definition d' fails) = entry_is_of_limits (same_definition d d' h) fails
+
 entries_are_of_limits : {limit : ℕ} {old : Contents} {place p : Place} {names : List ℕ} {kind : WrittenKind} {cause : Cause}
     → AreTypedEntries old place names kind → AreEntriesRefused limit old place names kind p cause → IsOfLimits cause
 entries_are_of_limits (AreTypedEntries.assumptions r typed) (AreEntriesRefused.type_unread u) = unread_is_of_limits r u
@@ -94,12 +100,11 @@ entries_are_of_limits {old = old} {place = place} (AreTypedEntries.assumptions r
     let same = same_core r r' in
     let made = subst (λ a. AssumesAll mark a place (with_types_of old t) before mid) (sym same) makes in
     entry_is_of_limits (subst (λ a. HasTyping (type_task mid a)) same (typed before after name mid refl made)) fails
-entries_are_of_limits (AreTypedEntries.definition d h) (AreEntriesRefused.body_unread u) = body_is_of_limits d u
-entries_are_of_limits (AreTypedEntries.definition d h) (AreEntriesRefused.written_unread r u) = written_is_of_limits d u
-entries_are_of_limits (AreTypedEntries.definition d h) (AreEntriesRefused.definition d' fails) = entry_is_of_limits (same_definition d d' h) fails
+entries_are_of_limits (AreTypedEntries.definition d h) refused = definition_is_of_limits d h refused
 
 bindings_are_of_limits : {limit : ℕ} {old : Contents} {bs : List WrittenBinding} {es : List Item} {p : Place} {cause : Cause}
     → AreTypedBindings old bs → AreRefused limit old bs es p cause → IsOfLimits cause
+bindings_are_of_limits AreTypedBindings.none r = elim r [ ]
 bindings_are_of_limits (AreTypedBindings.more h more) (AreRefused.here (IsBindingRefused.in_use i before name place used)) = absurd (used (h.new_names i _ (slice_get_within _ i _ name) name))
 bindings_are_of_limits (AreTypedBindings.more h more) (AreRefused.here (IsBindingRefused.entries new refused)) = entries_are_of_limits h.entries refused
 bindings_are_of_limits (AreTypedBindings.more h more) (AreRefused.later binds refused) = bindings_are_of_limits (more _ binds) refused

@@ -1,10 +1,10 @@
 -- The names of a command's tokens are held, and a numbering that grows keeps what is known of a session.
-use Rattle.std.proofs.Common.{◌≡◌, ℕ, ◌+◌, ◌<◌, ◌≤◌, nat_lt, length, Bool, true, false, ◌&&◌, if◌then◌else◌, ap₂, arith, append-nil, append_assoc, length-append, List, [], ◌∷◌, ◌++◌, map, Option, Some, None, IfSome, refl, sym, ap, ◌∙◌, subst}
+use Rattle.std.proofs.Common.{◌≡◌, ℕ, ◌+◌, ◌<◌, ◌≤◌, nat_lt, length, Bool, true, false, ◌&&◌, if◌then◌else◌, arith, append-nil, append_assoc, length-append, List, [], ◌∷◌, ◌++◌, map, Option, Some, None, IfSome, refl, sym, ap, ◌∙◌, subst}
 use Rattle.std.specs.Prelude.{slice_get, All, IsTrue}
 use Rattle.std.specs.List.{AllByRecursion}
 use Rattle.std.proofs.lemmas.Bool.{ltb-true}
 use Rattle.std.proofs.lemmas.Bool.Decides.{nat_tests}
-use Rattle.std.proofs.lemmas.List.Elements.{All-nil, All-cons, All-head, All-tail, All-push, All-weaker}
+use Rattle.std.proofs.lemmas.List.Elements.{All-nil, All-cons, All-push, All-weaker}
 use Rattle.std.proofs.lemmas.Option.{slice_get_within}
 use Rattle.lego_base.specs.declared.place.Place.{Place}
 use Rattle.lego_base.specs.Names.{has_name}
@@ -30,6 +30,7 @@ use Rattle.lego_session.specs.Names.{AreTrueNames, is_held, is_held_where, is_kn
 use Rattle.lego_session.specs.Reading.{is_plain}
 use Rattle.lego_session.specs.Sessions.{Session, context_of, empty_session, HoldsThroughout}
 use Rattle.lego_session.specs.Step.{bindings_of}
+use Rattle.lego_session.proofs.SessionLemmas.{All-front}
 use Rattle.lego_session.proofs.TokenLemmas.{IsTrueName, AreTrueNames as AreTrueTokens, tokens_are_names}
 
 held_number : (n m : ℕ) → n < m → nat_lt n m ≡ true
@@ -129,7 +130,7 @@ module _ (names : Names) where
   term_held (Reads.parens p q r) = term_held r
   term_held (Reads.pair p q r s m n a) = (term_held m, term_held n, term_held a)
   term_held (Reads.bind p q r {kind = kind} {mark = mark} {xs = xs} may list a m) = (binders_held (kind_of kind) mark (names_of xs) (list_held list), term_held a, term_held m)
-  term_held (Reads.local p q r s {n = n} {text = text} h m b) = (held_at names n text h, term_held m, term_held b)
+  term_held (Reads.local {n = n} p q r s {text = text} h m b) = (held_at names n text h, term_held m, term_held b)
 
   binding_held : {ts : List Nested} {b : WrittenBinding} → ReadsBinding names ts b → AreHeld names b.names × AreKindHeld names b.kind
   binding_held (ReadsBinding.assume p q r list type) = (list_held list, term_held type)
@@ -200,7 +201,7 @@ front_of_longer (x ∷ a) (y ∷ b) (z ∷ whole) p q l =
     let first : whole ≡ a ++ p.0 = let e = p.1 in cc in
     let other : whole ≡ b ++ q.0 = let f = q.1 in cc in
     let rest = front_of_longer a b whole (p.0, first) (q.0, other) (omega (arith, l)) in
-    (rest.0, ap₂ (λ (n : List ℕ) (ns : Names). n ∷ ns) same rest.1)
+    (rest.0, λ z. same z ∷ rest.1 z)
 
 kept_front : {old new : Names} → new ≡ old → IsFront old new
 kept_front {old = old} e = ([], e ∙ sym (append-nil old))
@@ -231,14 +232,11 @@ behind_true : (names : Names) (tokens : List Placed) → AreTrueNames names → 
 behind_true names [] all tokens_true = all
 behind_true names (t ∷ tokens) all tokens_true = behind_true (names_with names t.lexeme) tokens (with_true names t.lexeme all tokens_true.0) tokens_true.1
 
+abbrev IsNameText : List ℕ → Type 0
+IsNameText text = token_of text ≡ Some (Name text)
+
 front_true : (front whole : Names) → IsFront front whole → AreTrueNames whole → AreTrueNames front
-front_true front whole g all =
-    let is_name = λ text. token_of text ≡ Some (Name text) in
-    All-front is_name front g.0 (subst (All is_name) g.1 all)
-  where
-    All-front : (P : List ℕ → Type 0) (xs ys : Names) → All P (xs ++ ys) → All P xs
-    All-front P [] ys h = All-nil P
-    All-front P (x ∷ xs) ys h = All-cons P x xs (All-head P x (xs ++ ys) h) (All-front P xs ys (All-tail P x (xs ++ ys) h))
+front_true front whole g all = All-front IsNameText front g.0 (subst (λ (xs : Names). All IsNameText xs) g.1 all)
 
 command_true : {held names : Names} {c : CommandText} {o : WrittenCommand} → IsNumberedCommand held names c o → AreTrueNames held → AreTrueNames names
 command_true {held = held} command all =

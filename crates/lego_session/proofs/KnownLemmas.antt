@@ -36,7 +36,7 @@ both false b e f = absurd (cc)
 
 -- the binders of a written term that has no implicit mark, and whose names are held, are known
 module _ (names : Names) where
-  known_kind : BinderKind → Binder → Type 0
+  abbrev known_kind : BinderKind → Binder → Type 0
   known_kind kind x = IsTrue (is_known_binder names kind x)
 
   binders_known : (kind : BinderKind) (mark : Mark) (ns : List ℕ) → is_plain mark ≡ true → All (IsHeldBinder names kind) (written_binders mark ns)

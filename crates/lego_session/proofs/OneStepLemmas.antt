@@ -60,15 +60,18 @@ record IsOneRefusal (es ds : List Item) (p q : Place) (c d : Cause) : Type 0 whe
   pub place : p ≡ q
   pub cause : c ≡ d
 
-module _ (names : Names) (limit : ℕ) {old : Session} (first : Place) where
-  one_forgetting : {new other : Session} {n : ℕ} {text last : List ℕ} → Forgets old n text new → Forgets old n last other → AreOne text last new other
-  one_forgetting p q =
-      let same : p.at ≡ q.at = same_Some p.at q.at (sym p.there ∙ q.there) in
-      record {
-        texts = p.is_text ∙ ap (λ at. codes "forgot " ++ decimal (length (entries_of old) - at) ++ codes "\n") same ∙ sym q.is_text;
-        sessions = p.moves ∙ ap (λ at. moved_to old (front_of (context_of old) at)) same ∙ sym q.moves;
-      }
+one_forgetting : {old new other : Session} {n : ℕ} {text last : List ℕ} → Forgets old n text new → Forgets old n last other → AreOne text last new other
+one_forgetting {old} p q =
+    let same : p.at ≡ q.at = same_Some p.at q.at (sym p.there ∙ q.there) in
+    record {
+      texts = p.is_text ∙ ap (λ at. codes "forgot " ++ decimal (length (entries_of old) - at) ++ codes "\n") same ∙ sym q.is_text;
+      sessions = p.moves ∙ ap (λ at. moved_to old (front_of (context_of old) at)) same ∙ sym q.moves;
+    }
 
+some_none : (at : ℕ) → Some at ≡ None → ⊥
+some_none at e = cc
+
+module _ (names : Names) (limit : ℕ) (old : Session) (first : Place) where
   -- what an accepted command answers and leaves is one
   one_acceptance : {new other : Session} {text last : List ℕ} (act : WrittenAct) → ReadsNoTerm act → Accepts names limit old first act text new
       → Accepts names limit old first act last other → AreOne text last new other
@@ -88,9 +91,6 @@ module _ (names : Names) (limit : ℕ) {old : Session} (first : Place) where
   one_refusal written.Ctxt n r s = absurd r
   one_refusal _ n r s = absurd n
 
-  some_none : (at : ℕ) → Some at ≡ None → ⊥
-  some_none at e = cc
-
   -- an accepted command is not refused
   not_both : (new : Session) (text : List ℕ) (es : List Item) (p : Place) (c : Cause) (act : WrittenAct) → ReadsNoTerm act
       → Accepts names limit old first act text new → IsRefused limit old first act es p c → ⊥
@@ -101,12 +101,12 @@ module _ (names : Names) (limit : ℕ) {old : Session} (first : Place) where
 
 pub steps_have_one_reply : StepsHaveOneReply
 steps_have_one_reply names limit old new last o one other reads (Step.accepted p) (Step.accepted q) =
-    let same = one_acceptance names limit o.place o.act reads p q in
+    let same = one_acceptance names limit old o.place o.act reads p q in
     (ap (λ text. record { refused = false; text = text }) same.texts, same.sessions)
 steps_have_one_reply names limit old new last o one other reads (Step.accepted p) (Step.refused at cause es r told) =
-    absurd (not_both names limit o.place _ _ es at cause o.act reads p r)
+    absurd (not_both names limit old o.place _ _ es at cause o.act reads p r)
 steps_have_one_reply names limit old new last o one other reads (Step.refused at cause es r told) (Step.accepted p) =
-    absurd (not_both names limit o.place _ _ es at cause o.act reads p r)
+    absurd (not_both names limit old o.place _ _ es at cause o.act reads p r)
 steps_have_one_reply names limit old new last o one other reads (Step.refused p c es r told) (Step.refused q d ds s told') =
-    let same = one_refusal names limit o.place o.act reads r s in
+    let same = one_refusal names limit old o.place o.act reads r s in
     (λ z. record { refused = true; text = refusal_text names (same.entries z) (same.place z) (same.cause z) }, refl)

@@ -1,5 +1,5 @@
 -- Texts at the same values of the levels are one.
-use Rattle.std.proofs.Common.{◌≡◌, ℕ, zero, suc, ◌≤◌, if◌then◌else◌, List, [], ◌∷◌, ◌++◌, take, drop, length, get_or, Option, Some, None, option_map, refl, sym, ap, ◌∙◌, arith}
+use Rattle.std.proofs.Common.{◌≡◌, ℕ, zero, suc, ◌≤◌, if◌then◌else◌, List, [], ◌∷◌, ◌++◌, take, drop, length, get_or, Option, Some, None, option_map, refl, sym, ap, ◌∙◌, subst, arith}
 use Rattle.std.specs.Prelude.{codes, decimal}
 use Rattle.lego_term.specs.declared.binder.Mark.{Mark}
 use Rattle.lego_term.specs.declared.binder.Mark.TheVariants.{Plain, Implicit}
@@ -56,8 +56,8 @@ module _ (v : Assignment) where
         let domain = term_alike scope 0 a in
         let body = term_alike (bound scope x.name) 0 b in
         λ z. ranked 0 wanted (if is_arrow x b
-            then arrow_domain z ++ codes "->" ++ arrow_body z
-            else codes "{" ++ binder_name scope x.name ++ sign_text x.mark ++ domain z ++ codes "}" ++ body z)
+        then arrow_domain z ++ codes "->" ++ arrow_body z
+        else codes "{" ++ binder_name scope x.name ++ sign_text x.mark ++ domain z ++ codes "}" ++ body z)
     term_alike scope wanted (Lam x a m) =
         let domain = term_alike scope 0 a in
         let body = term_alike (bound scope x.name) 0 m in
@@ -72,8 +72,8 @@ module _ (v : Assignment) where
         let domain = term_alike scope 0 a in
         let body = term_alike (bound scope x.name) 0 b in
         λ z. ranked (sigma_rank b) wanted (if is_unused b
-            then first z ++ codes "#" ++ second z
-            else codes "<" ++ binder_name scope x.name ++ codes ":" ++ domain z ++ codes ">" ++ body z)
+        then first z ++ codes "#" ++ second z
+        else codes "<" ++ binder_name scope x.name ++ codes ":" ++ domain z ++ codes ">" ++ body z)
     term_alike scope wanted (Pair x a b m n) =
         let left = term_alike scope 0 m in
         let right = term_alike scope 0 n in
@@ -82,10 +82,10 @@ module _ (v : Assignment) where
         let domain = term_alike scope 0 a in
         let body = term_alike (bound scope x.name) 0 b in
         λ z. codes "(" ++ left z ++ codes "," ++ right z ++ codes ":"
-            ++ (if is_unused b
-            then first z ++ codes "#" ++ second z
-            else codes "<" ++ binder_name scope x.name ++ codes ":" ++ domain z ++ codes ">" ++ body z)
-            ++ codes ")"
+        ++ (if is_unused b
+        then first z ++ codes "#" ++ second z
+        else codes "<" ++ binder_name scope x.name ++ codes ":" ++ domain z ++ codes ">" ++ body z)
+        ++ codes ")"
     term_alike scope wanted (Fst m) = ap (λ text. text ++ codes ".1") (term_alike scope 3 m)
     term_alike scope wanted (Snd m) = ap (λ text. text ++ codes ".2") (term_alike scope 3 m)
     term_alike scope wanted (Let x m n) =
@@ -112,4 +112,4 @@ module _ (v : Assignment) where
 pub one_listing : (names : Names) (v w : Assignment) (es : List Item) (from : ℕ) (text other : List ℕ) → v ≡ w
     → AreEntryLines names v es from text → AreEntryLines names w es from other → text ≡ other
 one_listing names v w es from text other same p q =
-    p.is ∙ lines_alike v p.levels q.levels p.least (q.least ∙ sym same) (scope_among names es (take from es)) (laws_entries (drop from es)) ∙ sym q.is
+    p.is ∙ lines_alike v p.levels q.levels p.least (subst (λ x. IsLeast q.levels x) (sym same) q.least) (scope_among names es (take from es)) (laws_entries (drop from es)) ∙ sym q.is

@@ -2,8 +2,10 @@
 use Rattle.std.proofs.Common.{◌≡◌, ℕ, zero, suc, ◌-◌, ◌<◌, ◌≤◌, List, [], ◌∷◌, ◌++◌, take, drop, length, slice_get, Some, refl, sym, ap, ap₂, ◌∙◌, subst, inr, arith}
 use Rattle.std.specs.Prelude.{codes, decimal}
 use Rattle.std.proofs.lemmas.List.{length-drop, take_all}
+use Rattle.lego_base.specs.declared.place.Place.{Place}
 use Rattle.lego_grammar.specs.Grammar.{Names}
 use Rattle.lego_grammar.specs.Written.{WrittenBinding}
+use Rattle.lego_grammar.specs.Written as written
 use Rattle.lego_context.specs.Entries.{position_of}
 use Rattle.lego_context.specs.Forgetting.{front_of}
 use Rattle.lego_undo.specs.Histories.{old_states, front, extent_of}
@@ -15,16 +17,20 @@ use Rattle.lego_undo.specs.declared.undo_fault.UndoFault.{UndoFault}
 use Rattle.lego_undo.specs.declared.undo_fault.UndoFault.TheVariants as Undo
 use Rattle.lego_session.specs.Sessions.{Session, Undoes}
 use Rattle.lego_session.specs.Sessions as sessions
+use Rattle.lego_session.specs.Step.{IsRefused, IsRefusal}
 use Rattle.lego_session.specs.Texts.{AreEntryLines}
 use Rattle.lego_session.specs.commands.Bindings.{BindsAll, AddsBindings}
 use Rattle.lego_session.specs.commands.Undo.{IsTooFar}
 use Rattle.lego_session.specs.commands.Forget.{Forgets}
 use Rattle.lego_session.specs.private.Binding.{ShowsAdded}
-use Rattle.lego_session.specs.private.Refusals.{undo_cause}
+use Rattle.lego_session.specs.private.Refusals.{undo_cause, IsRefusalOf}
+use Rattle.lego_session.specs.declared.refusal.Cause.{Cause}
 use Rattle.lego_session.specs.declared.refusal.Cause.TheVariants.{TooFar}
+use Rattle.lego_session.specs.declared.refusal.Refusal.{Refusal}
 use Rattle.lego_session.proofs.BindingLemmas.{split_at}
 use Rattle.lego_session.proofs.BindingsLemmas.{extends-binds}
 use Rattle.lego_session.proofs.ExtendLemmas.{front_back}
+use Rattle.lego_session.proofs.RefusalLemmas.{refusal, refused_so}
 
 -- the session of a state and what undoes the steps so far
 abbrev pub session : List Change → State → Session
@@ -77,3 +83,14 @@ pub too-far : (h : List Change) (s : State) (n : ℕ) (fault : UndoFault) → Is
 too-far h s n (Undo.TooFar asked count) f =
     let few : length (old_states h s) < n = omega (arith, f.0, states_length h s) in
     record { more = few; is_cause = ap₂ (λ a b. TooFar a b) f.1 (f.2 ∙ sym (states_length h s)) }
+
+-- the refusal of an `Undo` that asks for too many steps
+pub not-taken-back : (names : Names) (limit : ℕ) (h : List Change) (s s' : State) (n : ℕ) (place : Place) (fault : UndoFault) (cause : Cause) (r : Refusal)
+    → IsTooFarBack h n fault → s' ≡ s → cause ≡ undo_cause fault → IsRefusalOf names s'.context.entries place cause r.place r.cause r.text
+    → IsRefusal names limit (session h s) (record { place = place; act = written.Undo n }) r.place r.cause r.text
+not-taken-back names limit h s s' n place fault cause r far same is made =
+    let es = s.context.entries in
+    let far' : IsTooFar (session h s) n cause = subst (λ x. IsTooFar (session h s) n x) (sym is) (too-far h s n fault far) in
+    let here = subst (λ (x : State). IsRefusalOf names x.context.entries place cause r.place r.cause r.text) same made in
+    refusal names limit (session h s) (record { place = place; act = written.Undo n }) es r.place r.cause r.text
+    (refused_so names es (λ q x. IsRefused limit (session h s) place (written.Undo n) es q x) place r.place cause r.cause r.text (inr (refl, refl, far')) here)

@@ -2,7 +2,7 @@
 use Rattle.std.specs.Prelude.{ℕ, suc, ◌+◌, List, [], ◌∷◌}
 use Rattle.lego_term.specs.declared.binder.Mark.{Mark}
 use Rattle.lego_grammar.specs.declared.surface.Surface.{Surface}
-use Rattle.lego_grammar.specs.declared.surface.Surface.TheOpen.{Surface-F, Name, Prop, AnyType, TypeAt, Hole, Bind, Local, Apply, Pair, Project}
+use Rattle.lego_grammar.specs.declared.surface.Surface.TheOpen.{Surface-F, Bind, Local, Apply, Pair, Project}
 use Rattle.lego_grammar.specs.declared.surface.Surface.TheFolds.{fold-Surface}
 
 abbrev pub total : List (Mark × ℕ) → ℕ

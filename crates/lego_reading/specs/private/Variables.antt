@@ -1,5 +1,5 @@
 -- Local variables as the code keeps them.
-use Rattle.std.specs.Prelude.{ℕ, ◌≤◌, [], ◌∷◌, length, Option, Some, None}
+use Rattle.std.specs.Prelude.{◌≤◌, [], ◌∷◌, length, Option, Some, None}
 use Rattle.lego_term.specs.Trees.{Core, loose}
 use Rattle.lego_grammar.specs.Scopes.{LocalVariable, Scope}
 use Rattle.lego_reading.specs.declared.scope.Variable.{Variable}

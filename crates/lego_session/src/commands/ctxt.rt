@@ -4,10 +4,10 @@ ghost use Rattle.lego_context.specs.Entries.{HasNoHole};
 ghost use Rattle.lego_session.specs.commands.Ctxt.{ShowsContext};
 ghost use Rattle.lego_session.specs.declared.refusal.Cause.TheVariants.{Memory};
 
-use crate::text::entry_lines;
 use crate::parts::Parts;
 use crate::refusal::Refusal;
 use crate::session::Answer;
+use crate::text::entry_lines;
 use lego_base::{Names, Place};
 use lego_term::List;
 use std::alloc::AllocError;

@@ -9,10 +9,10 @@ ghost use Rattle.lego_session.specs.private.Refusals.{IsRefusedSo, IsAnswerOf};
 ghost use Rattle.lego_session.specs.private.Shown.{TypingFailsSo, FormFails, ReachesForm, TypesSo, form_of};
 
 use crate::commands::terms::read_at;
-use crate::text::{term_line, typing_line};
 use crate::parts::Parts;
 use crate::refusal::{Reason, Refusal};
 use crate::session::Answer;
+use crate::text::{term_line, typing_line};
 use lego_base::Names;
 use lego_context::{Context, Settled};
 use lego_grammar::Surface;
@@ -65,7 +65,14 @@ impl Parts {
         ensures state { self.new ≡ self.old }
     {
         let extent = self.state.extent();
-        let shown = form_text(self.alloc, names, &mut self.state.context, form, term, asked);
+        let shown = form_text(
+            self.alloc,
+            names,
+            &mut self.state.context,
+            form,
+            term,
+            asked,
+        );
         self.state.cut_to(extent);
         self.answer(names, shown)
     }
@@ -148,7 +155,13 @@ fn typed(
 }
 
 /// The form of a term over the context.
-fn reach(alloc: Global, context: &Context, form: Form, core: Term, asked: At) -> Result<Term, Reason>
+fn reach(
+    alloc: Global,
+    context: &Context,
+    form: Form,
+    core: Term,
+    asked: At,
+) -> Result<Term, Reason>
     requires { IsOverContext context.now core }
     ensures { ReachesForm (form_of form) context.now.entries core asked result }
 {

@@ -1,4 +1,3 @@
-use Rattle.std.proofs.Common.{Err, Ok}
 use Rattle.std.proofs.lemmas.Result.{err_from_is_err_and}
 use Rattle.lego_inference.specs.Entries.{laws_entries}
 use Rattle.lego_reading.specs.private.Annotations.{IsNotAnnotated}

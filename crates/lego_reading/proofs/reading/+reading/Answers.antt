@@ -1,8 +1,8 @@
-use Rattle.std.proofs.Common.{map, ◌≡◌, ℕ, suc, ◌+◌, ◌≤◌, ◌<◌, ◌∙◌, List, [], ◌∷◌, length, drop, Some, None, Ok, Err, refl, sym, ap, subst, arith}
+use Rattle.std.proofs.Common.{map, ◌≡◌, ℕ, ◌+◌, ◌≤◌, ◌∙◌, List, [], ◌∷◌, ◌++◌, length, take, drop, get_or, length-take-le, Some, None, Ok, Err, refl, sym, ap, subst, arith}
 use Rattle.std.proofs.lemmas.Result.{err_from_is_err_and}
 use Rattle.lego_term.specs.declared.binder.Mark.TheVariants.{Plain}
-use Rattle.lego_term.specs.Trees.{Core, Pair, Let}
-use Rattle.std.proofs.lemmas.List.{take_all}
+use Rattle.lego_term.specs.Trees.{Core, App, Pair, Let}
+use Rattle.std.proofs.lemmas.List.{take_all, take_more}
 use Rattle.lego_grammar.specs.Surface.{written, applied, projected}
 use Rattle.lego_grammar.specs.declared.surface.Surface.{Surface}
 use Rattle.lego_term.specs.declared.binder.Mark.{Mark}
@@ -11,16 +11,16 @@ use Rattle.lego_grammar.specs.Written.{Written}
 use Rattle.lego_grammar.specs.Reading.{binder}
 use Rattle.lego_reading.specs.Universes.{variables_for}
 use Rattle.lego_reading.specs.private.Binders.{AreDomains, inner_scope, written_argument}
-use Rattle.lego_reading.proofs.RunLemmas.{arguments_stop}
-use Rattle.lego_reading.proofs.SizeLemmas.{written-Name, written-Prop, written-AnyType, written-TypeAt, written-Hole, written-Local, written-Pair, written-Apply, written-Project, nodes-Local, nodes-Pair, nodes-Apply, nodes-Project, nodes_of_all}
+use Rattle.lego_reading.proofs.RunLemmas.{arguments_stop, argument_halts, item_more, parts_stop}
+use Rattle.lego_reading.proofs.SizeLemmas.{written-Name, written-Prop, written-AnyType, written-TypeAt, written-Hole, written-Bind, written-Local, written-Pair, written-Apply, written-Project, nodes-Local, nodes-Pair, nodes-Apply, nodes-Project, nodes_of_all, argument_within}
 use Rattle.lego_grammar.specs.Scopes.{LocalVariable, Scope}
 use Rattle.lego_inference.specs.Entries.{laws_entries}
 use Rattle.lego_reading.specs.private.Variables.{AreOver}
 use Rattle.lego_reading.proofs.AnnotationLemmas.{annotated_at}
 use Rattle.lego_reading.specs.private.Parts.{IsReady, IsReading, Stops, ReadsAs}
 use Rattle.lego_reading.proofs.PartLemmas.{unknown_goal, stops_at, reading_at, on_any, nameless_is, domain_stops, nameless_stops, local_is, value_stops, local_stops, pair_is, pair_type_stops, annotation_stops, first_stops, second_stops}
-use Rattle.lego_reading.proofs.ReadyLemmas.{ready_applied, ready_projected, length-inner, ready_in, ready_domain, ready_body, ready_nameless, ready_value, ready_local, ready_type, ready_first, ready_second}
-use Rattle.lego_reading.proofs.BinderLemmas.{body_halts, drop-inner, domains_length}
+use Rattle.lego_reading.proofs.ReadyLemmas.{ready_applied, ready_item, ready_projected, length-inner, ready_in, ready_domain, ready_body, ready_nameless, ready_value, ready_local, ready_type, ready_first, ready_second}
+use Rattle.lego_reading.proofs.BinderLemmas.{no_names, inner-push, drop-inner, domains_push, domains_length, domain_halts, body_halts}
 use Rattle.lego_reading.proofs.reading.+reading.Goals as goal
 
 pub nameless-core_of-requires : goal.nameless-core_of-requires
@@ -45,7 +45,7 @@ pub nameless-returns-in_err-body-clause-core : goal.nameless-returns-in_err-body
 nameless-returns-in_err-body-clause-core t c =
     let e = err_from_is_err_and c.from_residual-in_err-body.result c.from_residual-in_err-body.ensures.1 in
     rw (e.1, e.2) (nameless_stops c.in_ok-domain.ensures.core
-      (stops_at (c.in_ok-push.ensures ∙ ap (λ (z : Scope). LocalVariable.Bound None ∷ z) c.in_ok-domain.ensures.scope) c.in_err-body.ensures.core))
+    (stops_at (c.in_ok-push.ensures ∙ ap (λ (z : Scope). LocalVariable.Bound None ∷ z) c.in_ok-domain.ensures.scope) c.in_err-body.ensures.core))
 
 pub nameless-pop-requires : goal.nameless-pop-requires
 nameless-pop-requires t c = let k = ap (λ (z : Scope). length z) (c.in_ok-body.ensures.scope ∙ c.in_ok-push.ensures) in omega arith
@@ -128,7 +128,7 @@ pub pairing-returns-in_err-first-clause-core : goal.pairing-returns-in_err-first
 pairing-returns-in_err-first-clause-core t c =
     let e = err_from_is_err_and c.from_residual-in_err-first.result c.from_residual-in_err-first.ensures.1 in
     rw (e.1, e.2) (first_stops c.in_ok-ty.ensures.core (annotated_at (laws_entries c.args.setting.now.context.now.entries) c.args.setting.now.limit c.in_ok-ty.ty (Ok c.in_ok-sigma.sigma) c.in_ok-ty.ensures.scope c.in_ok-sigma.ensures).0
-      (stops_at c.in_ok-ty.ensures.scope c.in_err-first.ensures.core))
+    (stops_at c.in_ok-ty.ensures.scope c.in_err-first.ensures.core))
 
 pub pairing-core_of-requires-3 : goal.pairing-core_of-requires-3
 pairing-core_of-requires-3 t c =
@@ -138,8 +138,8 @@ pub pairing-returns-in_err-second-clause-core : goal.pairing-returns-in_err-seco
 pairing-returns-in_err-second-clause-core t c =
     let e = err_from_is_err_and c.from_residual-in_err-second.result c.from_residual-in_err-second.ensures.1 in
     rw (e.1, e.2) (second_stops c.in_ok-ty.ensures.core (annotated_at (laws_entries c.args.setting.now.context.now.entries) c.args.setting.now.limit c.in_ok-ty.ty (Ok c.in_ok-sigma.sigma) c.in_ok-ty.ensures.scope c.in_ok-sigma.ensures).0
-      (reading_at c.in_ok-ty.ensures.scope c.in_ok-first.ensures.core)
-      (stops_at (c.in_ok-first.ensures.scope ∙ c.in_ok-ty.ensures.scope) c.in_err-second.ensures.core))
+    (reading_at c.in_ok-ty.ensures.scope c.in_ok-first.ensures.core)
+    (stops_at (c.in_ok-first.ensures.scope ∙ c.in_ok-ty.ensures.scope) c.in_err-second.ensures.core))
 
 pub pairing-returns-clause-core : goal.pairing-returns-clause-core
 pairing-returns-clause-core t c =
@@ -221,7 +221,7 @@ application-returns-clause-scope t c = c.loop-mark.invariant.1
 pub application-returns-clause-core : goal.application-returns-clause-core
 application-returns-clause-core t c =
     subst (λ xs. IsReading (laws_entries c.args.setting.now.context.now.entries) (variables_for c.args.setting.now.context.now.levels c.args.setting.now.places.now)
-      c.args.scope.now (applied (written c.args.function.now) (map written_argument xs)) c.loop-mark.applied)
+    c.args.scope.now (applied (written c.args.function.now) (map written_argument xs)) c.loop-mark.applied)
     (take_all c.loop-mark.mark-index c.args.arguments.now c.loop-mark-test.false) c.loop-mark.invariant.0
 
 pub core_of-local_definition-requires : goal.core_of-local_definition-requires
@@ -273,7 +273,7 @@ pub named-returns-in_err-body-clause-core : goal.named-returns-in_err-body-claus
 named-returns-in_err-body-clause-core t c =
     let e = err_from_is_err_and c.from_residual-in_err-body.result c.from_residual-in_err-body.ensures.1 in
     rw (e.1, e.2) (body_halts c.args.setting.now.limit c.args.head.now.kind c.args.head.now.mark (written c.args.body.now) c.in_err-body.field-0.0 c.requires.names
-      c.in_ok-domains.ensures.cores (stops_at c.in_ok-domains.ensures.scope c.in_err-body.ensures.core))
+    c.in_ok-domains.ensures.cores (stops_at c.in_ok-domains.ensures.scope c.in_err-body.ensures.core))
 
 pub named-leave-requires : goal.named-leave-requires
 named-leave-requires t c =
@@ -286,7 +286,7 @@ named-enclosed-requires-clause-names t c = c.requires.names
 pub named-returns-clause-scope : goal.named-returns-clause-scope
 named-returns-clause-scope t c =
     on_any c.enclosed.result (c.leave.ensures ∙ ap (λ (z : Scope). drop (length c.args.head.now.names.now) z) (c.in_ok-body.ensures.scope ∙ c.in_ok-domains.ensures.scope)
-      ∙ drop-inner c.args.scope.now c.args.head.now.names.now)
+    ∙ drop-inner c.args.scope.now c.args.head.now.names.now)
 
 pub application-loop-mark-init : goal.application-loop-mark-init
 application-loop-mark-init t c = (c.in_ok-applied.ensures.core, c.in_ok-applied.ensures.scope)
@@ -310,3 +310,106 @@ domains-returns-clause-cores t c =
 pub domains-returns-clause-scope : goal.domains-returns-clause-scope
 domains-returns-clause-scope t c =
     c.loop-name.invariant.1 ∙ ap (inner_scope c.args.scope.now) (take_all c.loop-name.name-index c.args.head.now.names.now c.loop-name-test.false)
+
+pub application-core_of-requires-in-loop-mark : goal.application-core_of-requires-in-loop-mark
+application-core_of-requires-in-loop-mark t c =
+    let falls = c.decreases in
+    let xs = c.args.arguments.now in
+    let x = c.loop-mark-item.result in
+    let within = argument_within xs c.loop-mark.mark-index x c.loop-mark-test.true in
+    let same = ap (λ (y : Mark × Surface). nodes y.1) c.loop-mark-item.is in
+    (omega arith, ready_in c.loop-mark.invariant.1 (ready_item (written c.args.function.now) xs c.loop-mark.mark-index x c.loop-mark-test.true c.loop-mark-item.is c.requires))
+
+pub application-returns-in_err-argument-clause-core : goal.application-returns-in_err-argument-clause-core
+application-returns-in_err-argument-clause-core t c =
+    let e = err_from_is_err_and c.from_residual-in_err-argument.result c.from_residual-in_err-argument.ensures.1 in
+    rw (e.1, e.2) (argument_halts (written c.args.function.now) c.args.arguments.now c.loop-mark.mark-index c.loop-mark-item.result c.loop-mark-test.true
+    c.loop-mark.invariant.0
+    (subst (λ (x : Mark × Surface). Stops (laws_entries c.args.setting.now.context.now.entries) (variables_for c.args.setting.now.context.now.levels c.args.setting.now.places.now)
+    c.args.setting.now.limit c.args.scope.now (written x.1) c.in_err-argument.field-0.0) c.loop-mark-item.is
+    (stops_at c.loop-mark.invariant.1 c.in_err-argument.ensures.core)))
+
+pub application-returns-in_err-applied-2-clause-core : goal.application-returns-in_err-applied-2-clause-core
+application-returns-in_err-applied-2-clause-core t c =
+    let x = c.loop-mark-item.result in
+    let e = err_from_is_err_and c.from_residual-in_err-applied-2.result c.from_residual-in_err-applied-2.ensures.1 in
+    rw (e.1, e.2) (arguments_stop (written c.args.function.now) c.args.arguments.now (c.loop-mark.mark-index + 1)
+    (item_more c.args.setting.now.limit (written c.args.function.now) c.args.arguments.now c.loop-mark.mark-index x (Err c.in_err-applied-2.field-0.0)
+    c.loop-mark-test.true c.loop-mark-item.is c.loop-mark.invariant.0 (reading_at c.loop-mark.invariant.1 c.in_ok-argument.ensures.core)
+    (c.in_err-applied-2.ensures (App x.0 c.loop-mark.applied c.in_ok-argument.argument) c.app.ensures)))
+
+pub application-loop-mark-preserved : goal.application-loop-mark-preserved
+application-loop-mark-preserved t c =
+    let x = c.loop-mark-item.result in (
+      item_more 0 (written c.args.function.now) c.args.arguments.now c.loop-mark.mark-index x (Ok c.in_ok-applied-2.applied)
+          c.loop-mark-test.true c.loop-mark-item.is c.loop-mark.invariant.0 (reading_at c.loop-mark.invariant.1 c.in_ok-argument.ensures.core)
+          (c.in_ok-applied-2.ensures (App x.0 c.loop-mark.applied c.in_ok-argument.argument) c.app.ensures),
+      c.in_ok-argument.ensures.scope ∙ c.loop-mark.invariant.1,
+    )
+
+pub core_of-returns-in_err-of-in-Project-clause-core : goal.core_of-returns-in_err-of-in-Project-clause-core
+core_of-returns-in_err-of-in-Project-clause-core t c =
+    let e = err_from_is_err_and c.from_residual.result c.from_residual.ensures.1 in
+    rw (e.1, e.2) (subst (λ (w : Written). Stops (laws_entries c.args.setting.now.context.now.entries) (variables_for c.args.setting.now.context.now.levels c.args.setting.now.places.now)
+    c.args.setting.now.limit c.args.scope.now w c.in_err-of-in-Project.field-0.0)
+    (sym (ap written c.in-Project.is ∙ written-Project c.in-Project.of c.in-Project.parts ∙ sym (λ z. projected (written (c.get-in-Project.ensures z)) c.in-Project.parts)))
+    (parts_stop (written c.get-in-Project.result.now) c.in-Project.parts 0 c.in_err-of-in-Project.ensures.core))
+
+pub core_of-returns-then-is_empty-clause-core : goal.core_of-returns-then-is_empty-clause-core
+core_of-returns-then-is_empty-clause-core t c =
+    subst (λ (w : Written). ReadsAs c.args.setting.now.context.now c.args.setting.now.places.now c.args.setting.now.limit c.args.scope.now w c.nameless.result)
+    (sym (ap written c.in-Bind.is ∙ written-Bind c.in-Bind.kind c.in-Bind.mark c.in-Bind.names c.in-Bind.domain c.in-Bind.body
+    ∙ ap (λ ns. Written.Bind c.in-Bind.kind c.in-Bind.mark ns (written c.in-Bind.domain) (written c.in-Bind.body))
+    (sym c.items.ensures ∙ no_names c.items.result.now c.if-is_empty.ensures)
+    ∙ sym (λ z. Written.Bind c.in-Bind.kind c.in-Bind.mark [] (written (c.get.ensures z)) (written (c.get-then-is_empty.ensures z)))))
+    c.nameless.ensures.core
+
+pub core_of-returns-in_ok-of-in-Project-clause-core : goal.core_of-returns-in_ok-of-in-Project-clause-core
+core_of-returns-in_ok-of-in-Project-clause-core t c =
+    let es = laws_entries c.args.setting.now.context.now.entries in
+    let types = variables_for c.args.setting.now.context.now.levels c.args.setting.now.places.now in
+    subst (λ (w : Written). ReadsAs c.args.setting.now.context.now c.args.setting.now.places.now c.args.setting.now.limit c.args.scope.now w c.projections.result)
+    (sym (ap written c.in-Project.is ∙ written-Project c.in-Project.of c.in-Project.parts
+    ∙ sym (λ z. projected (written (c.get-in-Project.ensures z)) (c.items-in-Project.ensures z))))
+    (c.projections.ensures es types c.args.setting.now.limit c.args.scope.now (written c.get-in-Project.result.now) c.in_ok-of-in-Project.ensures.core)
+
+pub domains-core_of-requires : goal.domains-core_of-requires
+domains-core_of-requires t c =
+    let falls = c.decreases in
+    let front : List ℕ = take c.loop-name.name-index c.args.head.now.names.now in
+    let count = length-take-le c.loop-name.name-index c.args.head.now.names.now c.loop-name.auto.name-index-end in
+    let within : length front ≤ length c.args.head.now.names.now = omega arith in
+    (omega arith, ready_in c.loop-name.invariant.1 (ready_domain front within c.requires))
+
+pub domains-returns-in_err-domain-clause-err : goal.domains-returns-in_err-domain-clause-err
+domains-returns-in_err-domain-clause-err t c =
+    let e = err_from_is_err_and c.from_residual.result c.from_residual.ensures.1 in
+    rw (e.1, e.2) (domain_halts c.args.setting.now.limit c.args.head.now.kind c.args.head.now.mark (written c.args.body.now) c.args.head.now.names.now
+    c.loop-name.name-index c.in_err-domain.field-0.0 c.loop-name-test.true refl c.loop-name.invariant.0
+    (stops_at c.loop-name.invariant.1 c.in_err-domain.ensures.core))
+
+pub domains-loop-name-preserved : goal.domains-loop-name-preserved
+domains-loop-name-preserved t c =
+    let names : List ℕ = c.args.head.now.names.now in
+    let i = c.loop-name.name-index in
+    let n : ℕ = get_or names i 0 in
+    let more : take (i + 1) names ≡ take i names ++ n ∷ [] = take_more names i 0 c.loop-name-test.true in
+    let es = laws_entries c.args.setting.now.context.now.entries in
+    let types = variables_for c.args.setting.now.context.now.levels c.args.setting.now.places.now in (
+      subst (λ ns. AreDomains es types (written c.args.head.now.domain.now) c.args.scope.now ns c.push.new.self.items) (sym more)
+          (subst (λ (ts : List Core). AreDomains es types (written c.args.head.now.domain.now) c.args.scope.now (take i names ++ n ∷ []) ts) (sym c.in-Ok.ensures.items)
+          (domains_push n c.in_ok-domain.domain c.loop-name.invariant.0 (reading_at c.loop-name.invariant.1 c.in_ok-domain.ensures.core))),
+      c.in_ok-push.ensures ∙ ap (λ (z : Scope). LocalVariable.Bound (Some n) ∷ z) (c.in_ok-domain.ensures.scope ∙ c.loop-name.invariant.1)
+          ∙ sym (inner-push c.args.scope.now (take i names) n) ∙ ap (inner_scope c.args.scope.now) (sym more),
+    )
+
+pub named-enclosed-requires-clause-each : goal.named-enclosed-requires-clause-each
+named-enclosed-requires-clause-each t c = ap (λ (ts : List Core). length ts) c.deref.ensures.value ∙ domains_length c.in_ok-domains.ensures.cores
+
+pub named-returns-clause-core : goal.named-returns-clause-core
+named-returns-clause-core t c =
+    let es = laws_entries c.args.setting.now.context.now.entries in
+    let types = variables_for c.args.setting.now.context.now.levels c.args.setting.now.places.now in
+    c.enclosed.ensures es types c.args.setting.now.limit c.args.scope.now (written c.args.head.now.domain.now) (written c.args.body.now)
+    (subst (λ (ts : List Core). AreDomains es types (written c.args.head.now.domain.now) c.args.scope.now c.args.head.now.names.now ts) (sym c.deref.ensures.value) c.in_ok-domains.ensures.cores)
+    (reading_at c.in_ok-domains.ensures.scope c.in_ok-body.ensures.core)

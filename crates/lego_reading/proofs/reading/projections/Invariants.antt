@@ -1,4 +1,4 @@
-use Rattle.std.proofs.Common.{ℕ, List, take}
+use Rattle.std.proofs.Common.{List, take}
 use Rattle.lego_laws.specs.Entries.{Entry}
 use Rattle.lego_grammar.specs.Surface.{projected}
 use Rattle.lego_grammar.specs.Written.{Written}

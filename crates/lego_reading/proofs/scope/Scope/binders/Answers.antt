@@ -1,4 +1,4 @@
-use Rattle.std.proofs.Common.{◌≡◌, ◌≤◌, ◌∙◌, sym, ap, map, reverse, length}
+use Rattle.std.proofs.Common.{◌≤◌, ◌∙◌, sym, ap, map, reverse, length}
 use Rattle.std.proofs.lemmas.List.{take_all}
 use Rattle.lego_grammar.specs.Scopes.{Scope}
 use Rattle.lego_reading.specs.declared.scope.Variable.{Variable}

@@ -1,7 +1,7 @@
-use Rattle.std.proofs.Common.{◌≡◌, ℕ, ◌<◌, ◌≤◌, List, [], ◌∷◌, map, take, length, slice_get, Option, Some, None, option_map, Result, Ok, Err, refl, sym, ap, ◌∙◌, subst, inl, inr, arith}
+use Rattle.std.proofs.Common.{inl, inr}
 use Rattle.std.proofs.lemmas.Result.{err_from_is_err_and}
 use Rattle.lego_grammar.specs.Surface.{written}
-use Rattle.lego_session.proofs.ShowLemmas.{unread_fails, untyped_fails, is_typed}
+use Rattle.lego_session.proofs.ShowLemmas.{unread_fails, untyped_fails}
 use Rattle.lego_session.proofs.ToldLemmas.{typing_told}
 use Rattle.lego_session.proofs.commands.show.typed.Goals as goal
 

@@ -1,16 +1,18 @@
-use Rattle.std.proofs.Common.{rules, ◌≡◌, ◌++◌, ℕ, false, codes, decimal, OnErr, IfOk, IfErr, ◌+◌, ◌-◌, ◌*◌, ◌<◌, ◌≤◌, length, ◌/◌, ◌%◌, Bool, true, nat_eq, nat_lt, List, [], ◌∷◌, slice_index_or, slice_set, bit_and, bit_or, Fits, w8, w32, w64, Bor, MutBor}
-use Rattle.lego_context.specs.Entries.{HasNoHole}
-use Rattle.lego_undo.specs.Histories.{GoesWith}
-use Rattle.lego_grammar.specs.Written.{Undo}
-use Rattle.lego_session.specs.Step.{IsRefusal}
-use Rattle.lego_session.specs.commands.Undo.{TakesBack}
-use Rattle.lego_session.specs.private.Parts.{session_of}
+use Rattle.std.proofs.Common.{◌∙◌}
+use Rattle.lego_session.proofs.StepLemmas.{takes-back, not-taken-back}
 use Rattle.lego_session.proofs.parts.Parts.undo.Goals as goal
 
--- src/commands/undo.rt:20:5
 pub returns-in-Ok-undo-clause-ok : goal.returns-in-Ok-undo-clause-ok
-returns-in-Ok-undo-clause-ok c = ?
+returns-in-Ok-undo-clause-ok c =
+    let old = c.args.self.now in
+    record {
+      undoes = takes-back old.history c.undo.new.self old.state c.undo.new.state c.args.count c.in-Ok-undo.ensures.ok;
+      is_text = c.of.ensures ∙ c.in-Ok.ensures;
+    }
 
--- src/commands/undo.rt:20:5
 pub returns-in-Err-clause-cause : goal.returns-in-Err-clause-cause
-returns-in-Err-clause-cause c = ?
+returns-in-Err-clause-cause c =
+    let old = c.args.self.now in
+    λ limit.
+    not-taken-back c.args.names.now limit old.history old.state c.undo.new.state c.args.count c.args.place c.in-Err.fault c.from.result c.refusal.result
+    c.in-Err.ensures.cause c.in-Err.ensures.kept c.from.ensures c.refusal.ensures
