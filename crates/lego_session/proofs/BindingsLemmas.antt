@@ -1,12 +1,14 @@
 -- Bindings made one after the other, and why one is refused.
-use Rattle.std.proofs.Common.{◌≡◌, ℕ, zero, suc, ◌+◌, ◌<◌, ◌≤◌, List, [], ◌∷◌, ◌++◌, map, take, drop, length, get_or, slice_get, Option, Some, None, refl, sym, ap, ◌∙◌, subst, inl, inr, arith}
+use Rattle.std.proofs.Common.{◌≡◌, ℕ, zero, suc, ◌+◌, ◌<◌, ◌≤◌, List, [], ◌∷◌, ◌++◌, map, take, drop, length, get_or, slice_get, Option, Some, None, option_map, Result, IfErr, refl, sym, ap, ◌∙◌, subst, inl, inr, arith}
 use Rattle.std.proofs.lemmas.List.{take_all}
 use Rattle.lego_base.specs.declared.place.Place.{Place}
 use Rattle.lego_term.specs.Trees.{Core}
 use Rattle.lego_term.specs.declared.binder.Mark.{Mark}
-use Rattle.lego_grammar.specs.Surface.{written_binding}
+use Rattle.lego_grammar.specs.Surface.{written, written_kind, written_binding}
 use Rattle.lego_grammar.specs.Written.{Written, WrittenKind, WrittenBinding, Assumed, Defined}
 use Rattle.lego_grammar.specs.declared.command.Binding.{Binding}
+use Rattle.lego_grammar.specs.declared.command.BindingKind.TheVariants.{Define}
+use Rattle.lego_grammar.specs.declared.surface.Surface.{Surface}
 use Rattle.lego_inference.specs.declared.entry.Entry.{Entry as Item}
 use Rattle.lego_context.specs.Contexts.{Contents}
 use Rattle.lego_reading.specs.Universes.{with_types_of}
@@ -17,6 +19,7 @@ use Rattle.lego_session.specs.declared.refusal.Cause.{Cause}
 use Rattle.lego_session.specs.declared.refusal.Cause.TheVariants as cause
 use Rattle.lego_session.specs.declared.refusal.Reason.{Reason}
 use Rattle.lego_session.proofs.BindingLemmas.{next_item, split_at}
+use Rattle.lego_session.proofs.EntriesLemmas.{if_err}
 use Rattle.lego_session.proofs.ExtendLemmas.{extends-self, extends-trans, extends-types, extends-assumed, extends-defined}
 
 extends-assumes : {mark : Mark} {ty : Core} {place : Place} {old new : Contents} {ns : List ℕ} → AssumesAll mark ty place old ns new → Extends old new
@@ -70,6 +73,17 @@ one_name kind m t ns d is h = only ns (subst (λ k. HasItsNames k (length ns)) i
     only [] l = absurd (omega (arith, l))
     only (n ∷ []) l = refl
     only (n ∷ k ∷ ns) l = absurd (omega (arith, l))
+
+-- so has one of the code
+pub the_name : (b : Binding) (ns : List ℕ) (body : Surface) (ty : Option Surface) → ns ≡ b.names → b.kind ≡ Define body ty → IsRight (written_binding b) → b.names ≡ get_or ns 0 0 ∷ []
+the_name b ns body ty same is right =
+    subst (λ ks. b.names ≡ get_or ks 0 0 ∷ []) (sym same)
+    (one_name (written_kind b.kind) (written body) (option_map written ty) b.names 0 (ap written_kind is) right.names)
+
+-- a binding is refused where its entries are
+pub binding_fails : (limit : ℕ) (c : Contents) (b : WrittenBinding) (kind : WrittenKind) (names : List ℕ) (r : Result (Unit {0}) Reason) → b.kind ≡ kind → b.names ≡ names
+    → AreNew c.entries b.names → IfErr r (EntriesFail limit c b.place names kind) → IfErr r (BindFails limit c b)
+binding_fails limit c b kind names r is same new = if_err r (λ reason h. entries_fail limit c b kind names reason is same new h)
 
 -- a binding of the list is right
 pub right_at : (bs : List Binding) (i : ℕ) (b d : Binding) → AreRight (map written_binding bs) → i < length bs → b ≡ get_or bs i d → IsRight (written_binding b)

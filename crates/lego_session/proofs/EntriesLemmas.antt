@@ -19,7 +19,7 @@ use Rattle.lego_session.specs.commands.Bindings as steps
 use Rattle.lego_session.specs.private.Binding.{Extends, IsOverContext, IsUnreadAt, EntriesFail, IsNotAssumed}
 use Rattle.lego_session.specs.declared.refusal.Cause.{Cause}
 use Rattle.lego_session.specs.declared.refusal.Reason.{Reason}
-use Rattle.lego_session.proofs.ExtendLemmas.{types-entries}
+use Rattle.lego_session.proofs.ExtendLemmas.{types-entries, extends-types, over-more}
 
 pub on_ok : {T E P Q : Type 0} (r : Result T E) → (P → Q) → OnOk r P → OnOk r Q
 on_ok (Ok x) f h = f h
@@ -79,3 +79,30 @@ read-entries {c} {m = m} (ReadsDefinition.typed {t = t} h k) = types-entries (wi
 pub defined_new : {c mid : Contents} {m : Written} {t : Option Written} {body : Core} {ty : Option Core} (name : ℕ) → ReadsDefinition c m t body ty mid
     → AreNew c.entries (name ∷ []) → position_of mid.entries name ≡ None
 defined_new name read new = ap (λ es. position_of es name) (read-entries read) ∙ (new 0 name (omega arith) refl).no_entry
+
+-- a definition is read whole, without and with a written type
+module _ (old mid : Contents) (m : Written) (t : Option Written) (body : Core) (read : IsCoreOf old m body) (is : mid ≡ with_types_of old m) where
+  pub whole_untyped : t ≡ None → ReadsDefinition old m t body None mid × IsOverContext mid body × Unit {0}
+  whole_untyped none = (
+    subst (λ x. ReadsDefinition old m x body None mid) (sym none)
+        (subst (λ x. ReadsDefinition old m None body None x) (sym is) (steps.ReadsDefinition.untyped read)),
+    subst (λ x. IsOverContext x body) (sym is) read.over,
+    tt,
+  )
+
+  pub whole_typed : (s : Written) (ty : Core) (new : Contents) → t ≡ Some s → IsCoreOf mid s ty → new ≡ with_types_of mid s
+      → ReadsDefinition old m t body (Some ty) new × IsOverContext new body × IsOverContext new ty
+  whole_typed s ty new some behind last =
+      let over : IsOverContext mid body = subst (λ x. IsOverContext x body) (sym is) read.over in (
+        subst (λ x. ReadsDefinition old m x body (Some ty) new) (sym some)
+            (subst (λ x. ReadsDefinition old m (Some s) body (Some ty) x) (sym (last ∙ ap (λ x. with_types_of x s) is))
+            (steps.ReadsDefinition.typed read (subst (λ x. IsCoreOf x s ty) is behind))),
+        over-more mid new body (extends-types mid new s last) over,
+        subst (λ x. IsOverContext x ty) (sym last) behind.over,
+      )
+
+  pub whole_unread : (s : Written) (limit : ℕ) (place : Place) (reason : Reason) → t ≡ Some s → IsUnreadAt mid s limit place reason
+      → (names : List ℕ) → EntriesFail limit old place names (Defined m t) reason
+  whole_unread s limit place reason some unread names =
+      subst (λ x. EntriesFail limit old place names (Defined m x) reason) (sym some)
+      (written_fails limit old place names m s body reason read (subst (λ x. IsUnreadAt x s limit place reason) is unread))

@@ -96,9 +96,9 @@ fn read_definition(
     ensures extends { Extends context.old context.new }
 {
     let body = read_at(alloc, context, body, asked)?;
-    let ty = match ty {
-        Some(ty) => Some(read_at(alloc, context, ty, asked)?),
-        None => None,
+    let Some(ty) = ty else {
+        return Ok((body, None));
     };
-    Ok((body, ty))
+    let ty = read_at(alloc, context, ty, asked)?;
+    Ok((body, Some(ty)))
 }

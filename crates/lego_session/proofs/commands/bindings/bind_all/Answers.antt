@@ -41,7 +41,7 @@ loop-binding-preserved c = record {
 pub returns-clause-ok : goal.returns-clause-ok
 returns-clause-ok c =
     let end = c.loop-binding-test.false in
-    let count = length-map written_binding c.args.bindings.now in
+    let count = length-map c.args.bindings.now written_binding in
     bound-all c.args.state.now.context c.loop-binding.state.context (map written_binding c.args.bindings.now) c.loop-binding.binding-index (omega (arith, end, count)) c.loop-binding.invariant.made
 
 pub returns-clause-extends : goal.returns-clause-extends

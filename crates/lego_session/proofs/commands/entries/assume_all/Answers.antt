@@ -1,4 +1,4 @@
-use Rattle.std.proofs.Common.{◌≡◌, ℕ, ◌<◌, ◌≤◌, List, [], ◌∷◌, map, take, length, slice_get, Option, Some, None, option_map, Result, Ok, Err, refl, sym, ap, ◌∙◌, subst, inl, inr, arith}
+use Rattle.std.proofs.Common.{◌≡◌, ℕ, ◌<◌, ◌≤◌, List, [], ◌∷◌, map, take, length, get_or, slice_get, Option, Some, None, option_map, Result, Ok, Err, refl, sym, ap, ◌∙◌, subst, inl, inr, arith}
 use Rattle.lego_session.specs.commands.Bindings as steps
 use Rattle.lego_session.proofs.BindingLemmas.{item_at, name_new, assumed-more, not_assumed, assumed-all}
 use Rattle.lego_session.proofs.ExtendLemmas.{extends-self, extends-trans, extends-same, extends-assumed, no_hole-more, over-more}
@@ -16,14 +16,14 @@ assume-requires c = record {
 
 pub untyped-requires : goal.untyped-requires
 untyped-requires c =
-    let at = item_at c.args.names.now c.loop-name.name-index c.name-item.result c.name-item.result c.loop-name-test.true c.name-item.is in
-    add_told (name_new c.args.mark c.args.ty.now c.args.asked c.args.context.now c.loop-name.context c.args.names.now c.loop-name.name-index c.name-item.result c.loop-name.invariant.made at c.requires.new)
+    let at = item_at c.args.names.now c.loop-name.name-index (get_or c.args.names.now c.loop-name.name-index 0) 0 c.loop-name-test.true refl in
+    add_told (name_new c.args.mark c.args.ty.now c.args.asked c.args.context.now c.loop-name.context c.args.names.now c.loop-name.name-index (get_or c.args.names.now c.loop-name.name-index 0) c.loop-name.invariant.made at c.requires.new)
     c.in-Err.ensures.0
 
 pub returns-in-Err-clause-cause : goal.returns-in-Err-clause-cause
 returns-in-Err-clause-cause c =
-    let at = item_at c.args.names.now c.loop-name.name-index c.name-item.result c.name-item.result c.loop-name-test.true c.name-item.is in
-    not_assumed c.args.mark c.args.ty.now c.args.asked c.args.context.now c.loop-name.context c.args.names.now c.loop-name.name-index c.name-item.result c.loop-name.invariant.made at
+    let at = item_at c.args.names.now c.loop-name.name-index (get_or c.args.names.now c.loop-name.name-index 0) 0 c.loop-name-test.true refl in
+    not_assumed c.args.mark c.args.ty.now c.args.asked c.args.context.now c.loop-name.context c.args.names.now c.loop-name.name-index (get_or c.args.names.now c.loop-name.name-index 0) c.loop-name.invariant.made at
     c.in-Err.fault c.untyped.result c.in-Err.ensures.0 c.untyped.ensures.place c.untyped.ensures.cause
 
 pub returns-in-Err-clause-extends : goal.returns-in-Err-clause-extends
@@ -32,10 +32,10 @@ returns-in-Err-clause-extends c =
 
 pub loop-name-preserved : goal.loop-name-preserved
 loop-name-preserved c =
-    let at = item_at c.args.names.now c.loop-name.name-index c.name-item.result c.name-item.result c.loop-name-test.true c.name-item.is in
+    let at = item_at c.args.names.now c.loop-name.name-index (get_or c.args.names.now c.loop-name.name-index 0) 0 c.loop-name-test.true refl in
     record {
       made =
-          assumed-more c.args.mark c.args.ty.now c.args.asked c.args.context.now c.loop-name.context c.args.names.now c.loop-name.name-index c.name-item.result c.loop-name.invariant.made at
+          assumed-more c.args.mark c.args.ty.now c.args.asked c.args.context.now c.loop-name.context c.args.names.now c.loop-name.name-index (get_or c.args.names.now c.loop-name.name-index 0) c.loop-name.invariant.made at
           c.assume.new.self c.in_default.ensures.1;
       extends = extends-trans c.args.context.now c.loop-name.context c.assume.new.self c.loop-name.invariant.extends (extends-assumed c.in_default.ensures.1);
     }
