@@ -45,7 +45,10 @@ fn has_plain_marks(s: &Surface) -> bool
 {
     match s {
         Surface::Bind {
-            mark, domain, body, ..
+            mark,
+            domain,
+            body,
+            ..
         } => is_plain(*mark) && has_plain_marks(domain.get()) && has_plain_marks(body.get()),
         Surface::Local { value, body, .. } => {
             has_plain_marks(value.get()) && has_plain_marks(body.get())

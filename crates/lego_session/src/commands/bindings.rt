@@ -13,10 +13,10 @@ ghost use Rattle.lego_session.specs.private.Binding.{AreRight, IsRight, IsFirstU
 ghost use Rattle.lego_session.specs.private.Parts.{session_of};
 
 use crate::commands::entries::{assume, define};
-use crate::text::entry_lines;
 use crate::parts::Parts;
 use crate::refusal::{Cause, Reason, Refusal};
 use crate::session::Answer;
+use crate::text::entry_lines;
 use indexmap::IndexSet;
 use lego_base::{Names, Place};
 use lego_context::Context;
@@ -122,12 +122,7 @@ fn bind(alloc: Global, state: &mut State, binding: &Binding, limit: u64) -> Resu
 }
 
 /// Makes the entries of a binding whose names are new; where one is refused, those before it stay.
-fn make(
-    alloc: Global,
-    context: &mut Context,
-    binding: &Binding,
-    limit: u64,
-) -> Result<(), Reason>
+fn make(alloc: Global, context: &mut Context, binding: &Binding, limit: u64) -> Result<(), Reason>
     requires right { IsRight (written_binding binding.now) }
     requires no_hole { HasNoHole context.old.entries }
     requires new { AreNew context.old.entries binding.now.names }
