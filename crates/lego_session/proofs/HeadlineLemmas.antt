@@ -1,20 +1,17 @@
 -- A printed development denotes the entries.
-use Rattle.std.proofs.Common.{◌≡◌, ℕ, suc, ◌+◌, ◌<◌, ◌≤◌, ◌^◌, Bool, ◌||◌, List, [], ◌∷◌, ◌++◌, map, take, drop, length, get_or, Result, Ok, Err, IfOk, Option, Some, IfSome, refl, sym, ap, ◌∙◌, subst, arith, append-nil}
+use Rattle.std.proofs.Common.{◌≡◌, ℕ, ◌<◌, ◌^◌, Bool, ◌||◌, List, [], ◌∷◌, ◌++◌, map, take, drop, length, Result, Ok, Err, IfOk, Option, refl, sym, ap, ◌∙◌, subst, arith, append-nil}
 use Rattle.std.specs.Prelude.{All, IsPermutation, codes, option_map, unwrap_or, false}
-use Rattle.std.specs.List.{list_any}
 use Rattle.std.specs.declared.alloc.Global.{Global}
 use Rattle.std.specs.declared.vec.Vec.{Vec}
-use Rattle.std.proofs.lemmas.List.Elements.{All-head, All-tail, All-nil, All-cons, All-map, All-weaker, All-from_get_or}
+use Rattle.std.proofs.lemmas.List.Elements.{All-head, All-tail, All-nil, All-cons, All-weaker, All-from_get_or}
 use Rattle.lego_base.specs.Names.{AreDistinct}
 use Rattle.lego_term.specs.Levels.{Assignment, SatisfiesAll}
 use Rattle.lego_term.specs.Trees.{uses_level}
-use Rattle.lego_laws.specs.Entries.{Entry, entries_at, kept}
-use Rattle.lego_laws.specs.Expansion.{HoldsPurely}
+use Rattle.lego_laws.specs.Entries.{Entry}
 use Rattle.lego_grammar.specs.Grammar.{Names}
 use Rattle.lego_level.specs.declared.constraint.Constraint.{Constraint}
-use Rattle.lego_level.specs.Graphs.{IsLeast, pairs_of}
+use Rattle.lego_level.specs.Graphs.{IsLeast}
 use Rattle.lego_inference.specs.declared.entry.Entry.{Entry as Item}
-use Rattle.lego_inference.specs.declared.entry.Universe.{Universe}
 use Rattle.lego_inference.specs.Entries.{laws_entry, laws_entries}
 use Rattle.lego_context.specs.Contexts.{Contents, IsContext, AreOverFronts, HoldsByLuosRules}
 use Rattle.lego_context.specs.Entries.{HasNoHole, constraints_of}

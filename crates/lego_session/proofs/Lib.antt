@@ -2,7 +2,6 @@ pub mod HeldLemmas
 pub mod NamedLemmas
 pub mod ShowableLemmas
 pub mod HeadlineLemmas
-pub mod ItemLemmas
 pub mod ExtendLemmas
 pub mod ToldLemmas
 pub mod BuiltLemmas

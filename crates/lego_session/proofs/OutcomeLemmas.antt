@@ -1,26 +1,26 @@
 -- What a call of `run` did, from what its parts did.
-use Rattle.std.proofs.Common.{◌≡◌, ℕ, ◌+◌, ◌≤◌, ◌<◌, Bool, true, false, ◌||◌, ◌&&◌, List, [], ◌∷◌, ◌++◌, length, take, drop, Option, None, Some, refl, sym, ap, ◌∙◌, subst, inl, inr, arith, append-nil, append_assoc, length-append, length-drop, length-take}
+use Rattle.std.proofs.Common.{◌≡◌, ◌≢◌, ℕ, ◌≤◌, Bool, true, false, ◌||◌, ◌&&◌, List, [], ◌++◌, length, take, drop, Option, None, Some, refl, sym, ap, ◌∙◌, subst, inl, inr, arith, append-nil, append_assoc, length-append, length-drop}
 use Rattle.std.specs.Prelude.{◌⊎◌, MatchBool}
 use Rattle.std.proofs.lemmas.Bool.{false≢true}
-use Rattle.std.proofs.lemmas.List.{take_all, take-append-drop}
+use Rattle.std.proofs.lemmas.List.{take-append-drop}
 use Rattle.std.specs.Io.KnownBytes.{Appends, Consumes, IsAtEnd, Keeps}
 use Rattle.std.proofs.KnownBytes.{Appends-nil, Appends-trans, Consumes-nil, Consumes-trans, Consumes-kept}
-use Rattle.lego_base.specs.Bytes.{AppendsFront}
 use Rattle.lego_base.specs.Causes.{Rose}
 use Rattle.lego_base.specs.Place.{behind}
 use Rattle.lego_lexer.specs.Commands.{CommandText, Cuts, Ending, HasEnded}
 use Rattle.lego_lexer.proofs.CutsExist.{scripts_cut}
 use Rattle.lego_words.specs.declared.options.Options.{Options}
 use Rattle.lego_grammar.specs.Grammar.{Names}
-use Rattle.lego_session.specs.Sessions.{Session, empty_session}
+use Rattle.lego_session.specs.Sessions.{Session}
 use Rattle.lego_session.specs.Step.{Reply}
 use Rattle.lego_session.specs.Texts.{first_place}
-use Rattle.lego_session.specs.Outcomes.{IsReadWhole, IsReadFor, IsReadToRefused, Completed, AnswersAll, Broken, Overlong, IsCutAmongAnswers, IsCutInClosing, CutOff, Outcome, IsAcceptable}
-use Rattle.lego_session.specs.private.Progress.{HasAnswered, HasAnsweredSome, IsUnderway, IsClosed, IsClosedInPart, IsFinished, IsPassed, IsEnded, IsStopped, IsHalted, IsOverlong}
+use Rattle.lego_session.specs.Outcomes.{IsReadWhole, IsReadFor, IsReadToRefused, Completed, Broken, Overlong, CutOff, Outcome, IsAcceptable}
+use Rattle.lego_session.specs.private.Progress.{HasAnswered, HasAnsweredSome, IsUnderway, IsClosed, IsClosedInPart, IsFinished, IsPassed, IsEnded, IsStopped, IsHalted, IsOverlong, IsCounted}
 use Rattle.lego_session.specs.Runs.{Run, Runs, Closes, answers_text, refuses, some_refused, ends_early, is_ending_refused}
 use Rattle.lego_session.specs.declared.progress.Progress.{Progress}
 use Rattle.lego_session.specs.declared.status.Status.{Status}
 use Rattle.lego_session.specs.declared.status.Status.TheVariants.{Accepted, Refused, Usage, ReadFault, WriteFault, Memory, OpenProof, TooLong}
+use Rattle.lego_session.proofs.ClosingLemmas.{match_passed, match_failed}
 use Rattle.lego_session.proofs.GatheredLemmas.{past_behind}
 use Rattle.lego_session.proofs.RunLemmas.{reached_first, run_with, run_here, text-push}
 
@@ -31,6 +31,17 @@ and_left false b h = h
 and_right : (a b : Bool) → (a && b) ≡ true → b ≡ true
 and_right true b h = h
 and_right false b h = absurd (false≢true h)
+
+-- no fault of the sink was counted, where none is answered
+pub not_counted : (before now : ℕ) (status : Status) → IsCounted before now status → status ≢ WriteFault → now ≡ before
+not_counted before now Accepted h none = h
+not_counted before now Refused h none = h
+not_counted before now Usage h none = h
+not_counted before now ReadFault h none = h
+not_counted before now WriteFault h none = absurd (none refl)
+not_counted before now Memory h none = h
+not_counted before now OpenProof h none = h
+not_counted before now TooLong h none = h
 
 -- nothing was read yet
 pub underway_first : (options : Options) (p : Progress) (l t : Option (List ℕ)) → p.options ≡ options → HasAnswered p [] [] → IsUnderway options p l l t t
@@ -55,11 +66,7 @@ some_underway options p l l' t t' u = record { read = u.read; answers = u.answer
 -- what follows the answers, where no command ends the run, and where one does
 closes_on : {stop : Bool} {names : Names} {s : Session} {ending : Ending} {development text : List ℕ} {early : Bool} → early ≡ false
     → Closes stop names s ending development text → MatchBool early (text ≡ []) (Closes stop names s ending development text)
-closes_on {stop} {names} {s} {ending} {development} {text} e h =
-    subst (λ b. MatchBool b (text ≡ []) (Closes stop names s ending development text)) (sym e) h
-
-closes_early : {P : Type 0} {early : Bool} → early ≡ true → MatchBool early ([] ≡ ([] : List ℕ)) P
-closes_early {P} e = subst (λ b. MatchBool b ([] ≡ ([] : List ℕ)) P) (sym e) refl
+closes_on {stop} {names} {s} {ending} {development} {text} {early} e h = match_failed early (text ≡ []) (Closes stop names s ending development text) e h
 
 -- where no refusal ends a run, that of the ending doesn't
 ending_goes_on : (stop some ending : Bool) → (stop && (some || ending)) ≡ false → (stop && ending) ≡ false
@@ -177,7 +184,7 @@ module _ (options : Options) (p : Progress) (l l' t t' : Option (List ℕ)) (u :
               refusal = ap (λ r. r || false) (and_right p'.options.stop (some_refused (u.answers ++ more)) early);
               development = [];
               output = answers_text (u.answers ++ more) ++ [];
-              is_output = record { closing = []; closes = closes_early early; is = refl };
+              is_output = record { closing = []; closes = match_passed (ends_early p'.options.stop (u.answers ++ more)) _ _ early refl; is = refl };
               written = subst (Appends t t'') (sym (append-nil (answers_text (u.answers ++ more)) ∙ text-push u.answers more)) (Appends-trans t t' t'' _ _ u.written w);
               headline = λ none. absurd (false≢true (sym none ∙ ap (λ b. b && true) (and_left p'.options.stop (some_refused (u.answers ++ more)) early)));
             }

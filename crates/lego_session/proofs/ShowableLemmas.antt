@@ -1,9 +1,9 @@
 -- The entries of a context whose names are held can be shown.
-use Rattle.std.proofs.Common.{◌≡◌, ℕ, zero, suc, ◌+◌, ◌<◌, ◌≤◌, ◌^◌, nat_eq, Bool, true, false, ◌&&◌, get_or, List, [], ◌∷◌, ◌++◌, map, take, length, Option, Some, None, option_map, unwrap_or, IfSome, refl, sym, ap, ◌∙◌, subst, arith, append_assoc, length-append}
-use Rattle.std.specs.Prelude.{All, is_some, IsSome, IsTrue, slice_get, find}
+use Rattle.std.proofs.Common.{◌≡◌, ℕ, suc, ◌+◌, ◌<◌, ◌≤◌, nat_eq, Bool, true, false, ◌&&◌, get_or, List, [], ◌∷◌, ◌++◌, take, length, Option, Some, None, option_map, unwrap_or, IfSome, refl, sym, ap, ◌∙◌, subst, arith, append_assoc, length-append}
+use Rattle.std.specs.Prelude.{All, IsSome, IsTrue, slice_get}
 use Rattle.std.specs.List.{AllByRecursion}
 use Rattle.std.proofs.lemmas.Bool.Decides.{nat_tests}
-use Rattle.std.proofs.lemmas.List.Elements.{All-head, All-tail, All-nil, All-cons, All-get_or, filter_map-append}
+use Rattle.std.proofs.lemmas.List.Elements.{All-get_or, filter_map-append}
 use Rattle.std.proofs.lemmas.Bool.{ltb-true, false≢true}
 use Rattle.std.proofs.lemmas.Option.{slice_get_within, slice_get-get_or, get_or_from_slice_get}
 use Rattle.lego_term.specs.Levels.{Assignment}
@@ -16,7 +16,6 @@ use Rattle.lego_laws.specs.Entries.{Entry, entry_of}
 use Rattle.lego_laws.specs.Strengthening.{MentionsOnly}
 use Rattle.lego_grammar.specs.Grammar.{Names}
 use Rattle.lego_grammar.specs.Scopes.{entry_named}
-use Rattle.lego_grammar.specs.Scopes as scopes
 use Rattle.lego_level.specs.Graphs.{Differ}
 use Rattle.lego_inference.specs.declared.entry.Entry.{Entry as Item}
 use Rattle.lego_inference.specs.Binders.{BinderKind, OfFunction, OfPair, OfLocal, BindersPass}
@@ -26,7 +25,7 @@ use Rattle.lego_inference.specs.Locals.{NamesEntries}
 use Rattle.lego_context.specs.Contexts.{Contents, IsContext, IsOverFront, AreOverFronts}
 use Rattle.lego_context.specs.Entries.{names_of, IsEntry, IsNoHole, HasNoHole}
 use Rattle.lego_context.proofs.EntryLemmas.{laws-push}
-use Rattle.lego_print.specs.Showable.{IsName, IsNamed, IsNamedAndPlain, AreBindersShowable, IsSmallTerm, IsSmallEntry, has_entry, IsShowableTerm, IsShowableEntry, AreShowable}
+use Rattle.lego_print.specs.Showable.{IsName, IsNamed, IsNamedAndPlain, AreBindersShowable, IsSmallEntry, has_entry, IsShowableTerm, IsShowableEntry, AreShowable}
 use Rattle.lego_session.specs.Names.{AreTrueNames, is_held, is_held_where, is_known_binder, IsKnown, AreKnown}
 use Rattle.lego_session.specs.Reading.{is_plain}
 use Rattle.lego_session.proofs.NamedLemmas.{has_name}

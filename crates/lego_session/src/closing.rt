@@ -3,6 +3,7 @@
 ghost use Rattle.std.specs.Prelude.{◌≡◌, ◌&&◌, [], false, IfOk, IfErr, OnOk, OnErr};
 ghost use Rattle.lego_session.specs.Headline.{Headline};
 ghost use Rattle.lego_session.specs.Names.{IsKnownSession};
+ghost use Rattle.lego_session.specs.Refusals.{refusal_text};
 ghost use Rattle.lego_session.specs.Runs.{ending_text, is_ending_refused, IsDeveloped};
 ghost use Rattle.lego_session.specs.Sessions.{Session as TheSession, context_of};
 ghost use Rattle.lego_session.specs.private.Gathered.{HasFailed};
@@ -15,7 +16,7 @@ use crate::progress::Progress;
 use crate::refusal::Cause;
 use crate::refusal_text::refusal_text;
 use crate::status::Status;
-use lego_base::{Names, Sink};
+use lego_base::{Names, Place, Sink};
 use lego_context::Context;
 use std::alloc::{AllocError, Global};
 
@@ -35,14 +36,27 @@ impl Rest {
     fn refusal(self, alloc: Global, names: &Names) -> Result<Vec<u8>, AllocError>
         ensures { IfOk result (λ text. (s : TheSession) → text.items ≡ ending_text names.now s (ending_of self)) }
     {
-        let (place, cause) = match self {
-            Rest::Blank => return Ok(Vec::new(alloc)),
-            Rest::Unended { place } => (place, Cause::Unended),
-            Rest::OpenComment { place } => (place, Cause::OpenComment),
-        };
-        // Its text names no entry, so any context serves.
-        refusal_text(alloc, names, &Context::new(alloc), place, &cause)
+        match self {
+            Rest::Blank => Ok(Vec::new(alloc)),
+            Rest::Unended { place } => refusal_of_rest(alloc, names, place, &Cause::Unended),
+            Rest::OpenComment { place } => {
+                refusal_of_rest(alloc, names, place, &Cause::OpenComment)
+            }
+        }
     }
+}
+
+/// The text of the refusal of what stands behind the last `;`. It names no entry, so any context
+/// serves.
+fn refusal_of_rest(
+    alloc: Global,
+    names: &Names,
+    place: Place,
+    cause: &Cause,
+) -> Result<Vec<u8>, AllocError>
+    ensures { IfOk result (λ text. text.items ≡ refusal_text names.now [] place cause.now) }
+{
+    refusal_text(alloc, names, &Context::new(alloc), place, cause)
 }
 
 impl Progress {

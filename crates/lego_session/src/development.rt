@@ -1,5 +1,5 @@
 //! The development of a session, and what is promised of it.
-ghost use Rattle.std.specs.Prelude.{◌≡◌, map, All, IfOk};
+ghost use Rattle.std.specs.Prelude.{◌≡◌, ◌<◌, ◌^◌, map, All, IfOk};
 ghost use Rattle.lego_context.specs.Entries.{HasNoHole};
 ghost use Rattle.lego_session.specs.Headline.{Headline};
 ghost use Rattle.lego_session.specs.Names.{AreTrueNames, AreKnown, IsKnownSession};
@@ -27,16 +27,23 @@ impl Session {
     }
 }
 
+/// The place at a line and a column.
+fn place_at(line: u32, column: u32) -> Place
+    ensures is { result ≡ record { line = line; column = column } }
+    ensures line { result.line < 2 ^ 64 }
+    ensures column { result.column < 2 ^ 64 }
+{
+    Place { line, column }
+}
+
 /// A written `Type`, as a development lists it.
 fn listed(universe: &lego_inference::Universe) -> Universe
     ensures is { result ≡ listed universe.now }
     ensures small { HasSmallPlace result }
 {
-    let line = universe.place.line;
-    let column = universe.place.column;
     Universe {
         variable: universe.variable,
-        place: Place { line, column },
+        place: place_at(universe.place.line, universe.place.column),
     }
 }
 
@@ -53,11 +60,7 @@ fn all_listed(alloc: Global, context: &Context) -> Result<Vec<Universe>, AllocEr
 }
 
 /// The development of a context without a hole, whose names are held.
-fn development(
-    alloc: Global,
-    names: &Names,
-    context: &Context,
-) -> Result<Vec<u8>, AllocError>
+fn development(alloc: Global, names: &Names, context: &Context) -> Result<Vec<u8>, AllocError>
     requires no_hole { HasNoHole context.now.entries }
     requires true_names { AreTrueNames names.now }
     requires known { AreKnown names.now context.now }

@@ -14,8 +14,9 @@ use lego_base::{Names, Place};
 use lego_context::Context;
 use lego_inference::Counted;
 use lego_level::Constraint;
-use lego_print::details_text as print_details;
-use lego_print::{Details, Heading, Shown, refusal_lines, term_text, typing_text};
+use lego_print::{
+    Details, Heading, Shown, details_text as print_details, refusal_lines, term_text, typing_text,
+};
 use lego_term::Seen;
 use std::alloc::{AllocError, Global};
 

@@ -1,4 +1,4 @@
-use Rattle.std.proofs.Common.{subst, ◌∙◌}
+use Rattle.std.proofs.Common.{subst}
 use Rattle.std.specs.Prelude.{All}
 use Rattle.lego_print.specs.Entries.{item_entries}
 use Rattle.lego_print.specs.Showable.{IsSmallEntry}
