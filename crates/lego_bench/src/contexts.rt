@@ -60,16 +60,21 @@ fn counted(development: &Development, refused: u64) -> Added {
 fn definitions(alloc: Global, size: u32) -> Result<Added, BenchFault> {
     let mut development = Development::new(alloc);
     development.assume(PROPOSITION, &prop(alloc)?)?;
-    let proposition = konst(alloc, PROPOSITION)?;
-    let argument = var(alloc, 0)?;
-    let mut body = lam(alloc, PLAIN, &proposition, &argument)?;
     for before in 0..size {
-        let name = before + 1;
-        development.define(name, &body)?;
-        let applied = app(alloc, Mark::Plain, &konst(alloc, name)?, &argument)?;
-        body = lam(alloc, PLAIN, &proposition, &applied)?;
+        development.define(before + 1, &function(alloc, before)?)?;
     }
     Ok(counted(&development, 0))
+}
+
+/// The function that applies the definition of this number; the first one is the identity.
+fn function(alloc: Global, before: u32) -> Result<Term, TermFault> {
+    let proposition = konst(alloc, PROPOSITION)?;
+    let argument = var(alloc, 0)?;
+    if before == PROPOSITION {
+        return lam(alloc, PLAIN, &proposition, &argument);
+    }
+    let applied = app(alloc, Mark::Plain, &konst(alloc, before)?, &argument)?;
+    lam(alloc, PLAIN, &proposition, &applied)
 }
 
 /// The definitions `Type i` of the type `Type (i + 1)`.
