@@ -29,9 +29,7 @@ fn ran(
 }
 
 #[test]
-fn definitions_and_terms_are_answered_at_their_least_levels(
-    rt: HostRuntime,
-) -> Result<(), Fail> {
+fn definitions_and_terms_are_answered_at_their_least_levels(rt: HostRuntime) -> Result<(), Fail> {
     let cases: [(&[u8], &[u8]); 13] = [
         (
             b"[T=Type][U:T][x:U];",
@@ -168,7 +166,8 @@ fn the_word_steps_bounds_each_comparison(rt: HostRuntime) -> Result<(), Fail> {
     assert_eq!(rt; got.0.as_slice(), refused.as_slice());
     assert_eq!(rt; got.1, Status::Refused);
     let got = ran(rt.alloc(), &["--steps=4"], script, 4096)?;
-    let accepted = b"A : Prop\nB = A : Prop\nC = B : Prop\nD = C : Prop\nE = D : Prop\ne : E\nx = e : A\nExplicit;\n[A:Prop];\n[B=A:Prop];\n[C=B:Prop];\n[D=C:Prop];\n[E=D:Prop];\n[e:E];\n[x=e:A];\n";
+    let accepted =
+        b"A : Prop\nB = A : Prop\nC = B : Prop\nD = C : Prop\nE = D : Prop\ne : E\nx = e : A\nExplicit;\n[A:Prop];\n[B=A:Prop];\n[C=B:Prop];\n[D=C:Prop];\n[E=D:Prop];\n[e:E];\n[x=e:A];\n";
     assert_eq!(rt; got.0.as_slice(), accepted.as_slice());
     assert_eq!(rt; got.1, Status::Accepted);
     Ok(())
@@ -176,9 +175,11 @@ fn the_word_steps_bounds_each_comparison(rt: HostRuntime) -> Result<(), Fail> {
 
 #[test]
 fn undoing_gives_levels_back(rt: HostRuntime) -> Result<(), Fail> {
-    let script = b"[K:Type->Prop][R:(Type->Prop)->Prop][y:R K][c=K]; Forget y; Undo 1; [m:K Type(3)]; Undo 2; Ctxt;";
+    let script =
+        b"[K:Type->Prop][R:(Type->Prop)->Prop][y:R K][c=K]; Forget y; Undo 1; [m:K Type(3)]; Undo 2; Ctxt;";
     let got = ran(rt.alloc(), &[], script, 4096)?;
-    let output = b"K : Type(0)->Prop\nR : (Type(0)->Prop)->Prop\ny : R K\nc = K : Type(0)->Prop\nforgot 2\nundone 1\nm : K Type(3)\nundone 2\nExplicit;\n";
+    let output =
+        b"K : Type(0)->Prop\nR : (Type(0)->Prop)->Prop\ny : R K\nc = K : Type(0)->Prop\nforgot 2\nundone 1\nm : K Type(3)\nundone 2\nExplicit;\n";
     assert_eq!(rt; got.0.as_slice(), output.as_slice());
     assert_eq!(rt; got.1, Status::Accepted);
     Ok(())
