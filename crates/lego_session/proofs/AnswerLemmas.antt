@@ -5,19 +5,19 @@ use Rattle.lego_base.specs.declared.place.Place.{Place}
 use Rattle.lego_grammar.specs.Grammar.{Names}
 use Rattle.lego_grammar.specs.Written.{WrittenCommand}
 use Rattle.lego_lexer.specs.Commands.{CommandText}
-use Rattle.lego_session.specs.Sessions.{Session}
-use Rattle.lego_session.specs.Answers.{IsNumbering, IsNumberedCommand, IsUnread, Answers, scope_of}
-use Rattle.lego_session.specs.Names.{IsKnownSession}
+use Rattle.lego_session.specs.Sessions.{Session, entries_of}
+use Rattle.lego_session.specs.Answers.{IsNumbering, IsNumberedCommand, IsUnread, Answers}
+use Rattle.lego_session.specs.Names.{AreBoundHeld, IsKnownSession}
 use Rattle.lego_session.specs.Reading.{is_built}
 use Rattle.lego_session.specs.private.Refusals.{IsRefusalOf}
-use Rattle.lego_session.specs.Step.{Step, IsRefusal}
+use Rattle.lego_session.specs.Step.{Step, IsRefusal, bindings_of}
 use Rattle.lego_session.specs.private.Unread.{IsUnreadBy, IsWritten}
 use Rattle.lego_session.specs.declared.answers.Answered.{Answered}
 use Rattle.lego_session.specs.declared.refusal.Cause.{Cause}
 use Rattle.lego_session.specs.declared.refusal.Cause.TheVariants.{LongCommand}
 use Rattle.lego_session.specs.declared.refusal.Refusal.{Refusal}
 use Rattle.lego_session.specs.declared.session.Answer.{Answer}
-use Rattle.lego_session.proofs.KnownLemmas.{answered_known}
+use Rattle.lego_session.proofs.HeldLemmas.{command_keeps, unread_keeps, names_held}
 
 -- what the count of the names says of their numbering
 pub numbered : (names : Names) (count : ℕ) → count ≡ length names → count ≤ 1048576 → AreDistinct names → IsNumbering names
@@ -38,11 +38,11 @@ step_written names limit old new o (Err refusal) (Some a) ok (inl memory) err w 
 step_written names limit old new o (Err refusal) (Some a) ok (inr h) err w =
     subst (λ es. Step names limit old o (record { refused = a.refused; text = a.text }) es) (sym err)
     (subst (λ r. Step names limit old o (record { refused = r; text = a.text }) old) (sym w.1)
-    (subst (λ t. Step names limit old o (record { refused = true; text = t }) old) (sym (w.2 ∙ h.2)) (Step.refused refusal.place refusal.cause h.0 h.1)))
+    (subst (λ t. Step names limit old o (record { refused = true; text = t }) old) (sym (w.2 ∙ h.3)) (Step.refused refusal.place refusal.cause h.0 h.1 h.2)))
 
 -- bytes that are no command, with their refusal written down
 pub unread_written : (limit : ℕ) (held names : Names) (es : Session) (c : CommandText) (p : Place) (cause : Cause) (refusal : Refusal) (written : Option Answered)
-    → IsNumbering names → IsUnreadBy held names c p cause → IsRefusalOf names (scope_of es) p cause refusal.place refusal.cause refusal.text
+    → IsNumbering names → IsUnreadBy held names c p cause → IsRefusalOf names (entries_of es) p cause refusal.place refusal.cause refusal.text
     → IsWritten (Err refusal) written
     → IfSome written (λ a. Answers limit held es c (record { refused = a.refused; text = a.text }) names es)
 unread_written limit held names es c p cause refusal None numbering unread is w = tt
@@ -54,7 +54,7 @@ unread_written limit held names es c p cause refusal (Some a) numbering (inr h) 
 
 -- too many bytes, with their refusal written down: whichever they are
 pub long_written : (names : Names) (es : Session) (p : Place) (count : ℕ) (refusal : Refusal) (written : Option Answered)
-    → IsNumbering names → 65536 < count → IsRefusalOf names (scope_of es) p (LongCommand count) refusal.place refusal.cause refusal.text
+    → IsNumbering names → 65536 < count → IsRefusalOf names (entries_of es) p (LongCommand count) refusal.place refusal.cause refusal.text
     → IsWritten (Err refusal) written
     → IfSome written (λ a. (limit : ℕ) (bytes : List ℕ) → count ≡ length bytes
     → Answers limit names es (record { place = p; bytes = bytes }) (record { refused = a.refused; text = a.text }) names es)
@@ -73,9 +73,17 @@ pub command_written : (limit : ℕ) (held names : Names) (old new : Session) (c 
 command_written limit held names old new c o None numbering command built step = tt
 command_written limit held names old new c o (Some a) numbering command built step = Answers.step numbering command built step
 
--- the names of the entries stay held
-pub written_known : (limit : ℕ) (held names : Names) (old new : Session) (c : CommandText) (written : Option Answered)
-    → length held ≤ 1048576 → IsKnownSession held old → IfSome written (λ a. Answers limit held old c (record { refused = a.refused; text = a.text }) names new)
-    → IfSome written (λ a. IsKnownSession names new)
-written_known limit held names old new c None few known answers = tt
-written_known limit held names old new c (Some a) few known answers = answered_known few answers known
+-- the names of the entries stay held, where bytes are a command
+pub run_known : {held names : Names} {old new : Session} {c : CommandText} {o : WrittenCommand} (written : Option Answered) → IsNumberedCommand held names c o
+    → (IsKnownSession names old → AreBoundHeld names (bindings_of o.act) → IsKnownSession names new) → IsKnownSession held old → IfSome written (λ a. IsKnownSession names new)
+run_known None command keeps known = tt
+run_known (Some a) command keeps known = keeps (command_keeps command known) (names_held command.command.parsed)
+
+-- and where they are none
+pub unread_known : {held left : Names} {s : Session} {c : CommandText} {p : Place} {cause : Cause} (written : Option Answered) (refusal : Refusal)
+    → IsUnreadBy held left c p cause → length held ≤ 1048576 → IsRefusalOf left (entries_of s) p cause refusal.place refusal.cause refusal.text
+    → IsWritten (Err refusal) written → IsKnownSession held s → IfSome written (λ a. IsKnownSession left s)
+unread_known None refusal unread few is w known = tt
+unread_known (Some a) refusal unread few (inl memory) w known = absurd (w.0 memory.0)
+unread_known (Some a) refusal (inl memory) few (inr is) w known = absurd (is.0 memory)
+unread_known {held} {left} {s} (Some a) refusal (inr h) few (inr is) w known = unread_keeps few h known

@@ -1,50 +1,58 @@
--- The development is gathered entry by entry.
-use Rattle.std.proofs.Common.{◌≡◌, ℕ, ◌+◌, Bool, true, false, if◌then◌else◌, List, ◌∷◌, [], ◌++◌, slice_get, Some, take, drop, Option, sym, ap, ◌∙◌, subst, append-nil, append_assoc}
-use Rattle.std.specs.List.{flat_map}
-use Rattle.std.proofs.lemmas.List.{take-append-drop}
-use Rattle.std.proofs.lemmas.Grind.{flat_map-append}
+-- What follows the answers, and a front of it.
+use Rattle.std.proofs.Common.{◌≡◌, ℕ, Bool, true, false, List, [], ◌++◌, Option, arith, refl, sym, ap₂, subst}
+use Rattle.std.specs.Prelude.{◌&&◌, MatchBool}
+use Rattle.std.proofs.KnownBytes.{Appends-nil}
+use Rattle.std.specs.Io.KnownBytes.{Appends}
 use Rattle.lego_base.specs.Bytes.{AppendsFront}
+use Rattle.lego_grammar.specs.Grammar.{Names}
+use Rattle.lego_lexer.specs.Commands.{Ending}
+use Rattle.lego_session.specs.Headline.{Headline}
+use Rattle.lego_session.specs.Runs.{ending_text, is_ending_refused, IsDeveloped, IsClosing}
+use Rattle.lego_session.specs.Sessions.{Session, context_of}
 use Rattle.lego_session.specs.private.Gathered.{Gathers}
-use Rattle.lego_session.proofs.GatheredLemmas.{front_of_longer, gathers_front}
-use Rattle.lego_session.proofs.TextLemmas.{next_text}
+use Rattle.lego_session.specs.private.Progress.{IsClosed, IsClosedInPart}
+use Rattle.lego_session.proofs.GatheredLemmas.{gathers_all, gathers_front}
 
-module _ {X : Type 0} (head : List ℕ) (f : X → List ℕ) (xs : List X) (i : ℕ) where
-  -- the texts of the first items, and the others
-  whole : (text : List ℕ) → (text ++ (head ++ flat_map f (take i xs))) ++ flat_map f (drop i xs) ≡ text ++ (head ++ flat_map f xs)
-  whole text =
-      let all : flat_map f (take i xs) ++ flat_map f (drop i xs) ≡ flat_map f xs = sym (flat_map-append f (take i xs) (drop i xs)) ∙ ap (flat_map f) (take-append-drop i xs) in
-      append_assoc text (head ++ flat_map f (take i xs)) (flat_map f (drop i xs))
-      ∙ ap (λ ys. text ++ ys) (append_assoc head (flat_map f (take i xs)) (flat_map f (drop i xs)) ∙ ap (λ ys. head ++ ys) all)
+-- where the test is passed, and where it fails
+pub match_passed : (b : Bool) (P Q : Type 0) → b ≡ true → P → MatchBool b P Q
+match_passed b P Q e h = subst (λ (x : Bool). MatchBool x P Q) (sym e) h
 
-  -- what is gathered so far was cut
-  pub part_cut : (start t : Option (List ℕ)) (gathered text : List ℕ) → Gathers start t gathered (text ++ (head ++ flat_map f (take i xs)))
-      → AppendsFront start t (text ++ (head ++ flat_map f xs))
-  part_cut start t gathered text g =
-      subst (AppendsFront start t) (whole text)
-      (front_of_longer start t (text ++ (head ++ flat_map f (take i xs))) (flat_map f (drop i xs)) (gathers_front start t gathered (text ++ (head ++ flat_map f (take i xs))) g))
+pub match_failed : (b : Bool) (P Q : Type 0) → b ≡ false → Q → MatchBool b P Q
+match_failed b P Q e h = subst (λ (x : Bool). MatchBool x P Q) (sym e) h
 
-  module _ (x : X) (there : slice_get xs i ≡ Some x) where
-    step : (text bytes : List ℕ) → bytes ≡ f x → (text ++ (head ++ flat_map f (take i xs))) ++ bytes ≡ text ++ (head ++ flat_map f (take (i + 1) xs))
-    step text bytes is =
-        append_assoc text (head ++ flat_map f (take i xs)) bytes
-        ∙ ap (λ ys. text ++ ys) (append_assoc head (flat_map f (take i xs)) bytes
-        ∙ ap (λ ys. head ++ ys) (ap (λ ys. flat_map f (take i xs) ++ ys) is ∙ sym (next_text f xs i x there)))
+-- nothing is a front of any text
+front_of_none : (t : Option (List ℕ)) (text : List ℕ) → AppendsFront t t text
+front_of_none t text = (0, omega arith, Appends-nil t)
 
-    -- one item more
-    pub part_more : (start t : Option (List ℕ)) (text bytes : List ℕ) → bytes ≡ f x → (gathered : List ℕ)
-        → Gathers start t gathered ((text ++ (head ++ flat_map f (take i xs))) ++ bytes) → Gathers start t gathered (text ++ (head ++ flat_map f (take (i + 1) xs)))
-    part_more start t text bytes is gathered g = subst (Gathers start t gathered) (step text bytes is) g
+module _ (stop : Bool) (names : Names) (s : Session) (ending : Ending) where
+  -- nothing was taken
+  pub cut_at_once : (t : Option (List ℕ)) → IsClosedInPart stop names s ending t t
+  cut_at_once t = (ending_text names s ending, IsClosing.refused, front_of_none t (ending_text names s ending))
 
--- it is cut within one item more
-pub part_next : {X : Type 0} (head : List ℕ) (f : X → List ℕ) (xs : List X) (i : ℕ) (x : X) → slice_get xs i ≡ Some x → (start t : Option (List ℕ)) (text bytes : List ℕ) → bytes ≡ f x
-    → AppendsFront start t ((text ++ (head ++ flat_map f (take i xs))) ++ bytes) → AppendsFront start t (text ++ (head ++ flat_map f xs))
-part_next head f xs i x there start t text bytes is cut =
-    subst (AppendsFront start t) (whole head f xs (i + 1) text)
-    (front_of_longer start t (text ++ (head ++ flat_map f (take (i + 1) xs))) (flat_map f (drop (i + 1) xs)) (subst (AppendsFront start t) (step head f xs i x there text bytes is) cut))
+  module _ (refusal : List ℕ) (is : refusal ≡ ending_text names s ending) (t t' : Option (List ℕ)) where
+    -- a front of the refusal was taken
+    pub cut_refusal : AppendsFront t t' refusal → IsClosedInPart stop names s ending t t'
+    cut_refusal f = (ending_text names s ending, IsClosing.refused, subst (AppendsFront t t') is f)
 
--- the development, or nothing
-pub with_nothing : (text other : List ℕ) (b : Bool) → b ≡ true → text ++ (if b then [] else other) ≡ text
-with_nothing text other b e = ap (λ c. text ++ (if c then [] else other)) e ∙ append-nil text
+    -- the refusal is gathered
+    pub gathered_refusal : (gathered : List ℕ) → Gathers t t' gathered refusal → IsClosedInPart stop names s ending t t'
+    gathered_refusal gathered g = cut_refusal (gathers_front t t' gathered refusal g)
 
-pub with_other : (text other : List ℕ) (b : Bool) → b ≡ false → text ++ (if b then [] else other) ≡ text ++ other
-with_other text other b e = ap (λ c. text ++ (if c then [] else other)) e
+    module _ (development made : List ℕ) (same : development ≡ made) (developed : IsDeveloped stop names s ending made) where
+      both : refusal ++ development ≡ ending_text names s ending ++ made
+      both = ap₂ (λ (xs ys : List ℕ). xs ++ ys) is same
+
+      -- a front of the refusal and of a development
+      pub cut_development : AppendsFront t t' (refusal ++ development) → IsClosedInPart stop names s ending t t'
+      cut_development f = (ending_text names s ending ++ made, IsClosing.developed (record { developed = developed; is = refl }), subst (AppendsFront t t') both f)
+
+      -- all of both
+      pub closed : ((stop && is_ending_refused ending) ≡ false → Headline names (context_of s) made) → (gathered : List ℕ) → gathered ≡ []
+          → Gathers t t' gathered (refusal ++ development) → IsClosed stop names s ending t t'
+      closed headline gathered none g = record {
+        development = made;
+        text = ending_text names s ending ++ made;
+        closes = record { developed = developed; is = refl };
+        written = subst (Appends t t') both (gathers_all t t' gathered (refusal ++ development) none g);
+        headline = headline;
+      }

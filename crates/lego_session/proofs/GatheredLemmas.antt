@@ -71,6 +71,10 @@ pub on_err : {X E : Type 0} {P : Type 0} → (r : Result X E) → P → OnErr r 
 on_err (Ok x) p = tt
 on_err (Err e) p = p
 
+pub on_ok-map : {X E : Type 0} {P Q : Type 0} → (r : Result X E) → (P → Q) → OnOk r P → OnOk r Q
+on_ok-map (Ok x) f p = f p
+on_ok-map (Err e) f p = tt
+
 pub on_err-map : {X E : Type 0} {P Q : Type 0} → (r : Result X E) → (P → Q) → OnErr r P → OnErr r Q
 on_err-map (Ok x) f p = tt
 on_err-map (Err e) f p = f p

@@ -1,25 +1,53 @@
--- A step of a session has one reply, and leaves one session.
-use Rattle.std.proofs.Common.{◌≡◌, ℕ, suc, ◌+◌, Bool, true, false, List, [], ◌∷◌, ◌++◌, length, Some, refl, sym, ap, ◌∙◌, subst, arith, length-append}
-use Rattle.std.specs.Prelude.{codes, decimal, drop}
-use Rattle.std.proofs.lemmas.Bool.{false≢true}
+-- A command that reads no term has one reply, and leaves one session.
+use Rattle.std.proofs.Common.{◌≡◌, ℕ, suc, ◌+◌, ◌-◌, true, false, List, [], ◌∷◌, ◌++◌, length, Some, None, refl, sym, ap, ◌∙◌, arith, length-append}
+use Rattle.std.specs.Prelude.{codes, decimal}
+use Rattle.std.proofs.lemmas.Option.{same_Some}
 use Rattle.lego_base.specs.declared.place.Place.{Place}
 use Rattle.lego_grammar.specs.Grammar.{Names}
-use Rattle.lego_grammar.specs.Written.{WrittenBinding, WrittenAct, WrittenCommand}
+use Rattle.lego_grammar.specs.Written.{WrittenAct, WrittenCommand}
 use Rattle.lego_grammar.specs.Written as written
-use Rattle.lego_kernel.specs.Contexts.{HaveDistinctNames}
-use Rattle.lego_kernel.specs.declared.entry.Entry.{Entry}
-use Rattle.lego_session.specs.Laws.{StepsHaveOneReply}
-use Rattle.lego_session.specs.Refusals.{Scope, refusal_text}
-use Rattle.lego_session.specs.Sessions.{Session, HasNoLevels, entries_of, Moves, Undoes}
+use Rattle.lego_inference.specs.declared.entry.Entry.{Entry as Item}
+use Rattle.lego_context.specs.Forgetting.{front_of}
+use Rattle.lego_undo.specs.declared.state.State.{State}
+use Rattle.lego_session.specs.Laws.{ReadsNoTerm, StepsHaveOneReply}
+use Rattle.lego_session.specs.Refusals.{refusal_text}
+use Rattle.lego_session.specs.Sessions.{Session, context_of, entries_of, moved_to, Undoes}
 use Rattle.lego_session.specs.Step.{Reply, Accepts, IsRefused, Step}
-use Rattle.lego_session.specs.Texts.{entry_lines}
-use Rattle.lego_session.specs.commands.Bindings.{AddsBindings}
-use Rattle.lego_session.specs.commands.Forget.{Forgets}
+use Rattle.lego_session.specs.commands.Forget.{Forgets, IsUnknown}
 use Rattle.lego_session.specs.commands.Undo.{IsTooFar}
 use Rattle.lego_session.specs.declared.refusal.Cause.{Cause}
-use Rattle.lego_session.proofs.PrintableLemmas.{absent}
-use Rattle.lego_session.proofs.OneBindingLemmas.{IsSame, one_list, list_not_refused, one_list_refusal}
-use Rattle.lego_session.proofs.OneMoveLemmas.{one_move, move_none, one_stay, stay_none, one_undo, undo_none, stands_at, one_place}
+use Rattle.lego_session.proofs.OneTextLemmas.{one_least, one_listing}
+
+first_is : {X : Type 0} {x y : X} {xs ys : List X} → ◌≡◌ {A = List X} (x ∷ xs) (y ∷ ys) → x ≡ y
+first_is e = cc
+
+rest_is : {X : Type 0} {x y : X} {xs ys : List X} → ◌≡◌ {A = List X} (x ∷ xs) (y ∷ ys) → xs ≡ ys
+rest_is e = cc
+
+-- a list is split in one way at a place
+pub one_split : {X : Type 0} (xs ys us vs : List X) → length xs ≡ length ys → xs ++ us ≡ ys ++ vs → (xs ≡ ys) × (us ≡ vs)
+one_split [] [] us vs l e = (refl, e)
+one_split [] (y ∷ ys) us vs l e = absurd (omega (arith, l))
+one_split (x ∷ xs) [] us vs l e = absurd (omega (arith, l))
+one_split (x ∷ xs) (y ∷ ys) us vs l e =
+    let first = first_is e in
+    let rest = one_split xs ys us vs (omega (arith, l)) (rest_is e) in
+    (λ z. first z ∷ rest.0 z, rest.1)
+
+same_undo : {old new other : Session} {n : ℕ} → Undoes old n new → {m : ℕ} → n ≡ m → Undoes old m other → new ≡ other
+same_undo Undoes.nothing e Undoes.nothing = refl
+same_undo Undoes.nothing e (Undoes.steps dropped is) = absurd (omega (arith, e))
+same_undo (Undoes.steps dropped is) e Undoes.nothing = absurd (omega (arith, e))
+same_undo (Undoes.steps {kept = kept} dropped {back = back} is) e (Undoes.steps {kept = kept'} dropped' {back = back'} is') =
+    let joined : kept ++ back ∷ dropped ≡ kept' ++ back' ∷ dropped' = sym is ∙ is' in
+    let few : length kept ≡ length kept' = omega (arith, e, ap length joined, length-append kept (back ∷ dropped), length-append kept' (back' ∷ dropped')) in
+    let parts = one_split kept kept' (back ∷ dropped) (back' ∷ dropped') few joined in
+    let same : back ≡ back' = first_is parts.1 in
+    λ z. record { now = same z; history = parts.0 z }
+
+too_far : {old new : Session} {n : ℕ} {c : Cause} → IsTooFar old n c → Undoes old n new → ⊥
+too_far far Undoes.nothing = omega (arith, far.more)
+too_far far (Undoes.steps {kept = kept} dropped {back = back} is) = omega (arith, far.more, ap length is, length-append kept (back ∷ dropped))
 
 -- the same answer of an accepted command
 record AreOne (text last : List ℕ) (new other : Session) : Type 0 where
@@ -27,89 +55,58 @@ record AreOne (text last : List ℕ) (new other : Session) : Type 0 where
   pub sessions : new ≡ other
 
 -- the same refusal, in the same scope
-record IsOneRefusal (scope other : Scope) (p q : Place) (c d : Cause) : Type 0 where
-  pub entries : scope.entries ≡ other.entries
-  pub same : IsSame p q c d
+record IsOneRefusal (es ds : List Item) (p q : Place) (c d : Cause) : Type 0 where
+  pub entries : es ≡ ds
+  pub place : p ≡ q
+  pub cause : c ≡ d
 
-too_far : {old new : Session} {n : ℕ} {c : Cause} → IsTooFar old n c → Undoes old n new → ⊥
-too_far far Undoes.nothing = omega (arith, far.more)
-too_far far (Undoes.steps {kept = kept} dropped {back = back} is state_is levels history_is) =
-    omega (arith, far.more, ap length is, length-append kept (back ∷ dropped))
-
-module _ (names : Names) (limit : ℕ) {old : Session} (none : HasNoLevels old) (differ : HaveDistinctNames (entries_of old)) where
-  one_addition : {new other : Session} {bs : List WrittenBinding} {text last : List ℕ} → AddsBindings names old bs text new → AddsBindings names old bs last other → AreOne text last new other
-  one_addition {other = other} p q =
-      let same : p.context ≡ q.context = one_list p.binds q.binds in
-      record {
-        texts = p.is_text ∙ (ap (λ (es : List Entry). entry_lines names es (drop (length (entries_of old)) es)) same ∙ sym q.is_text);
-        sessions = one_move none p.moves (subst (λ (es : List Entry). Moves old (record old.now.state { context = es }) 0 other) (sym same) q.moves);
-      }
-
-  one_forgetting : {new other : Session} {n : ℕ} {text last : List ℕ} → Forgets old n text new → Forgets old n last other → AreOne text last new other
-  one_forgetting {other = other} p q =
-      let same = one_place p.kept q.kept p.entry q.entry p.behind q.behind differ p.there p.named q.there q.named in
-      record {
-        texts = p.is_text ∙ (ap (λ (es : List Entry). codes "forgot " ++ decimal (suc (length es)) ++ codes "\n") same.1 ∙ sym q.is_text);
-        sessions = one_move none p.moves (subst (λ (es : List Entry). Moves old (record old.now.state { context = es }) 0 other) (sym same.0) q.moves);
-      }
-
-  -- what an accepted command answers and leaves is one
-  one_acceptance : {new other : Session} {text last : List ℕ} (act : WrittenAct) → Accepts names limit old act text new → Accepts names limit old act last other → AreOne text last new other
-  one_acceptance (written.Bindings bs) p q = one_addition p q
-  one_acceptance (written.Undo n) p q = record { texts = p.is_text ∙ sym q.is_text; sessions = one_undo none p.undoes q.undoes }
-  one_acceptance (written.Forget x) p q = one_forgetting p q
-  one_acceptance written.Ctxt p q = record { texts = p.is_text ∙ sym q.is_text; sessions = one_stay none p.stays q.stays }
-  one_acceptance _ p q = absurd p
-
-  -- no level variable is beside what it leaves
-  acceptance_none : {new : Session} (text : List ℕ) (act : WrittenAct) → Accepts names limit old act text new → HasNoLevels new
-  acceptance_none text (written.Bindings bs) p = move_none none p.moves
-  acceptance_none text (written.Undo n) p = undo_none none p.undoes
-  acceptance_none text (written.Forget x) p = move_none none p.moves
-  acceptance_none text written.Ctxt p = stay_none none p.stays
-  acceptance_none text _ p = absurd p
-
-  module _ (first : Place) where
-    -- a command is refused in one way
-    one_refusal : {scope other : Scope} {p q : Place} {c d : Cause} (act : WrittenAct)
-        → IsRefused limit old first act scope p c → IsRefused limit old first act other q d → IsOneRefusal scope other p q c d
-    one_refusal (written.Bindings bs) r s = let same = one_list_refusal r s in record { entries = same.0; same = same.1 }
-    one_refusal (written.Undo n) r s = record { entries = r.0 ∙ sym s.0; same = record { place = r.1 ∙ sym s.1; cause = r.2.is_cause ∙ sym s.2.is_cause } }
-    one_refusal (written.Forget x) r s = record { entries = r.0 ∙ sym s.0; same = record { place = r.1 ∙ sym s.1; cause = r.2.is_cause ∙ sym s.2.is_cause } }
-    one_refusal _ r s = absurd r
-
-    -- an accepted command is not refused
-    not_both : (new : Session) (text : List ℕ) (scope : Scope) (p : Place) (c : Cause) (act : WrittenAct)
-        → Accepts names limit old act text new → IsRefused limit old first act scope p c → ⊥
-    not_both new text scope p c (written.Bindings bs) a r = list_not_refused r a.binds
-    not_both new text scope p c (written.Undo n) a r = too_far r.2 a.undoes
-    not_both new text scope p c (written.Forget x) a r = absent (entries_of old) x.name r.2.none (length a.kept) a.entry (stands_at a.kept a.entry a.behind a.there) a.named
-    not_both new text scope p c _ a r = absurd r
-
--- one reply, and one session
-pub record IsOneStep (a b : Reply) (new other : Session) : Type 0 where
-  pub reply : a ≡ b
-  pub session : new ≡ other
-
-pub one_step : {names : Names} {limit : ℕ} {old : Session} → HasNoLevels old → HaveDistinctNames (entries_of old) → {o : WrittenCommand} {a b : Reply} {new other : Session}
-    → Step names limit old o a new → Step names limit old o b other → IsOneStep a b new other
-one_step {names} {limit} none differ {o} (Step.accepted p) (Step.accepted q) =
-    let same = one_acceptance names limit none differ o.act p q in
-    record { reply = ap (λ text. record { refused = false; text = text }) same.texts; session = same.sessions }
-one_step {names} {limit} none differ {o} (Step.accepted p) (Step.refused at cause scope r) = absurd (not_both names limit none differ o.place _ _ scope at cause o.act p r)
-one_step {names} {limit} none differ {o} (Step.refused at cause scope r) (Step.accepted p) = absurd (not_both names limit none differ o.place _ _ scope at cause o.act p r)
-one_step {names} {limit} none differ {o} (Step.refused p c scope r) (Step.refused q d other s) =
-    let same = one_refusal names limit none differ o.place o.act r s in
+one_forgetting : {old new other : Session} {n : ℕ} {text last : List ℕ} → Forgets old n text new → Forgets old n last other → AreOne text last new other
+one_forgetting {old} p q =
+    let same : p.at ≡ q.at = same_Some p.at q.at (sym p.there ∙ q.there) in
     record {
-      reply = λ z. record { refused = true; text = refusal_text names (record { entries = same.entries z }) (same.same.place z) (same.same.cause z) };
-      session = refl;
+      texts = p.is_text ∙ ap (λ at. codes "forgot " ++ decimal (length (entries_of old) - at) ++ codes "\n") same ∙ sym q.is_text;
+      sessions = p.moves ∙ ap (λ at. moved_to old (front_of (context_of old) at)) same ∙ sym q.moves;
     }
 
--- a step leaves no level variable beside a session
-pub step_none : {names : Names} {limit : ℕ} {old : Session} → HasNoLevels old → HaveDistinctNames (entries_of old) → {o : WrittenCommand} {a : Reply} {new : Session}
-    → Step names limit old o a new → HasNoLevels new
-step_none {names} {limit} none differ {o} (Step.accepted {text = text} p) = acceptance_none names limit none differ text o.act p
-step_none none differ (Step.refused p c scope r) = none
+some_none : (at : ℕ) → Some at ≡ None → ⊥
+some_none at e = cc
+
+module _ (names : Names) (limit : ℕ) (old : Session) (first : Place) where
+  -- what an accepted command answers and leaves is one
+  one_acceptance : {new other : Session} {text last : List ℕ} (act : WrittenAct) → ReadsNoTerm act → Accepts names limit old first act text new
+      → Accepts names limit old first act last other → AreOne text last new other
+  one_acceptance (written.Undo n) r p q = record { texts = p.is_text ∙ sym q.is_text; sessions = same_undo p.undoes refl q.undoes }
+  one_acceptance (written.Forget x) r p q = one_forgetting p q
+  one_acceptance {text = text} {last = last} written.Ctxt r p q = record {
+    texts = one_listing names p.1.values q.1.values (entries_of old) 0 text last (one_least p.1.values q.1.values p.1.settled q.1.settled) p.1.lines q.1.lines;
+    sessions = p.0 ∙ sym q.0;
+  }
+  one_acceptance _ r p q = absurd r
+
+  -- a command is refused in one way
+  one_refusal : {es ds : List Item} {p q : Place} {c d : Cause} (act : WrittenAct) → ReadsNoTerm act
+      → IsRefused limit old first act es p c → IsRefused limit old first act ds q d → IsOneRefusal es ds p q c d
+  one_refusal (written.Undo n) n' r s = record { entries = r.0 ∙ sym s.0; place = r.1 ∙ sym s.1; cause = r.2.is_cause ∙ sym s.2.is_cause }
+  one_refusal (written.Forget x) n r s = record { entries = r.0 ∙ sym s.0; place = r.1 ∙ sym s.1; cause = r.2.is_cause ∙ sym s.2.is_cause }
+  one_refusal written.Ctxt n r s = absurd r
+  one_refusal _ n r s = absurd n
+
+  -- an accepted command is not refused
+  not_both : (new : Session) (text : List ℕ) (es : List Item) (p : Place) (c : Cause) (act : WrittenAct) → ReadsNoTerm act
+      → Accepts names limit old first act text new → IsRefused limit old first act es p c → ⊥
+  not_both new text es p c (written.Undo n) r a s = too_far s.2 a.undoes
+  not_both new text es p c (written.Forget x) r a s = some_none a.at (sym a.there ∙ s.2.none)
+  not_both new text es p c written.Ctxt r a s = s
+  not_both new text es p c _ r a s = absurd r
 
 pub steps_have_one_reply : StepsHaveOneReply
-steps_have_one_reply names limit old new last o one other differ none p q = let same = one_step none differ p q in (same.reply, same.session)
+steps_have_one_reply names limit old new last o one other reads (Step.accepted p) (Step.accepted q) =
+    let same = one_acceptance names limit old o.place o.act reads p q in
+    (ap (λ text. record { refused = false; text = text }) same.texts, same.sessions)
+steps_have_one_reply names limit old new last o one other reads (Step.accepted p) (Step.refused at cause es r told) =
+    absurd (not_both names limit old o.place _ _ es at cause o.act reads p r)
+steps_have_one_reply names limit old new last o one other reads (Step.refused at cause es r told) (Step.accepted p) =
+    absurd (not_both names limit old o.place _ _ es at cause o.act reads p r)
+steps_have_one_reply names limit old new last o one other reads (Step.refused p c es r told) (Step.refused q d ds s told') =
+    let same = one_refusal names limit old o.place o.act reads r s in
+    (λ z. record { refused = true; text = refusal_text names (same.entries z) (same.place z) (same.cause z) }, refl)

@@ -1,27 +1,26 @@
 -- What a call of `run` did, from what its parts did.
-use Rattle.std.proofs.Common.{◌≡◌, ℕ, ◌+◌, ◌≤◌, ◌<◌, Bool, true, false, ◌||◌, ◌&&◌, if◌then◌else◌, List, [], ◌∷◌, ◌++◌, length, take, drop, Option, None, Some, refl, sym, ap, ◌∙◌, subst, inl, inr, arith, append-nil, append_assoc, length-append, length-drop, length-take}
-use Rattle.std.specs.Prelude.{◌⊎◌}
+use Rattle.std.proofs.Common.{◌≡◌, ◌≢◌, ℕ, ◌≤◌, Bool, true, false, ◌||◌, ◌&&◌, List, [], ◌++◌, length, take, drop, Option, None, Some, refl, sym, ap, ◌∙◌, subst, inl, inr, arith, append-nil, append_assoc, length-append, length-drop}
+use Rattle.std.specs.Prelude.{◌⊎◌, MatchBool}
 use Rattle.std.proofs.lemmas.Bool.{false≢true}
-use Rattle.std.proofs.lemmas.List.{take_all, take-append-drop}
+use Rattle.std.proofs.lemmas.List.{take-append-drop}
 use Rattle.std.specs.Io.KnownBytes.{Appends, Consumes, IsAtEnd, Keeps}
 use Rattle.std.proofs.KnownBytes.{Appends-nil, Appends-trans, Consumes-nil, Consumes-trans, Consumes-kept}
-use Rattle.lego_base.specs.Bytes.{AppendsFront}
 use Rattle.lego_base.specs.Causes.{Rose}
 use Rattle.lego_base.specs.Place.{behind}
 use Rattle.lego_lexer.specs.Commands.{CommandText, Cuts, Ending, HasEnded}
 use Rattle.lego_lexer.proofs.CutsExist.{scripts_cut}
 use Rattle.lego_words.specs.declared.options.Options.{Options}
 use Rattle.lego_grammar.specs.Grammar.{Names}
-use Rattle.lego_session.specs.Sessions.{Session, empty_session, entries_of}
-use Rattle.lego_session.specs.Headline.{Headline}
+use Rattle.lego_session.specs.Sessions.{Session}
 use Rattle.lego_session.specs.Step.{Reply}
 use Rattle.lego_session.specs.Texts.{first_place}
-use Rattle.lego_session.specs.Outcomes.{IsReadWhole, IsReadFor, IsReadToRefused, Completed, AnswersAll, Broken, Overlong, IsCutAmongAnswers, IsCutInClosing, CutOff, Outcome, IsAcceptable}
-use Rattle.lego_session.specs.private.Progress.{HasAnswered, HasAnsweredSome, IsUnderway, IsFinished, IsPassed, IsEnded, IsStopped, IsHalted, IsOverlong}
-use Rattle.lego_session.specs.Runs.{Run, Runs, answers_text, closing_text, output_of, refuses, some_refused, ends_early, is_ending_refused}
+use Rattle.lego_session.specs.Outcomes.{IsReadWhole, IsReadFor, IsReadToRefused, Completed, Broken, Overlong, CutOff, Outcome, IsAcceptable}
+use Rattle.lego_session.specs.private.Progress.{HasAnswered, HasAnsweredSome, IsUnderway, IsClosed, IsClosedInPart, IsFinished, IsPassed, IsEnded, IsStopped, IsHalted, IsOverlong, IsCounted}
+use Rattle.lego_session.specs.Runs.{Run, Runs, Closes, answers_text, refuses, some_refused, ends_early, is_ending_refused}
 use Rattle.lego_session.specs.declared.progress.Progress.{Progress}
 use Rattle.lego_session.specs.declared.status.Status.{Status}
 use Rattle.lego_session.specs.declared.status.Status.TheVariants.{Accepted, Refused, Usage, ReadFault, WriteFault, Memory, OpenProof, TooLong}
+use Rattle.lego_session.proofs.ClosingLemmas.{match_passed, match_failed}
 use Rattle.lego_session.proofs.GatheredLemmas.{past_behind}
 use Rattle.lego_session.proofs.RunLemmas.{reached_first, run_with, run_here, text-push}
 
@@ -33,12 +32,16 @@ and_right : (a b : Bool) → (a && b) ≡ true → b ≡ true
 and_right true b h = h
 and_right false b h = absurd (false≢true h)
 
--- the output where no command ends the run, and where one does
-output_on : (answers closing : List ℕ) (early : Bool) → early ≡ false → answers ++ (if early then [] else closing) ≡ answers ++ closing
-output_on answers closing early e = ap (λ b. answers ++ (if b then [] else closing)) e
-
-output_early : (answers closing : List ℕ) (early : Bool) → early ≡ true → answers ++ (if early then [] else closing) ≡ answers
-output_early answers closing early e = ap (λ b. answers ++ (if b then [] else closing)) e ∙ append-nil answers
+-- no fault of the sink was counted, where none is answered
+pub not_counted : (before now : ℕ) (status : Status) → IsCounted before now status → status ≢ WriteFault → now ≡ before
+not_counted before now Accepted h none = h
+not_counted before now Refused h none = h
+not_counted before now Usage h none = h
+not_counted before now ReadFault h none = h
+not_counted before now WriteFault h none = absurd (none refl)
+not_counted before now Memory h none = h
+not_counted before now OpenProof h none = h
+not_counted before now TooLong h none = h
 
 -- nothing was read yet
 pub underway_first : (options : Options) (p : Progress) (l t : Option (List ℕ)) → p.options ≡ options → HasAnswered p [] [] → IsUnderway options p l l t t
@@ -59,6 +62,17 @@ underway_first options p l t asked h = record {
 
 pub some_underway : (options : Options) (p : Progress) (l l' t t' : Option (List ℕ)) → IsUnderway options p l l' t t' → HasAnsweredSome p
 some_underway options p l l' t t' u = record { read = u.read; answers = u.answers; answered = u.answered }
+
+-- what follows the answers, where no command ends the run, and where one does
+closes_on : {stop : Bool} {names : Names} {s : Session} {ending : Ending} {development text : List ℕ} {early : Bool} → early ≡ false
+    → Closes stop names s ending development text → MatchBool early (text ≡ []) (Closes stop names s ending development text)
+closes_on {stop} {names} {s} {ending} {development} {text} {early} e h = match_failed early (text ≡ []) (Closes stop names s ending development text) e h
+
+-- where no refusal ends a run, that of the ending doesn't
+ending_goes_on : (stop some ending : Bool) → (stop && (some || ending)) ≡ false → (stop && ending) ≡ false
+ending_goes_on false some ending h = refl
+ending_goes_on true true ending h = absurd (false≢true (sym h))
+ending_goes_on true false ending h = h
 
 module _ (options : Options) (p : Progress) (l l' t t' : Option (List ℕ)) (u : IsUnderway options p l l' t t') where
   on : ends_early p.options.stop u.answers ≡ false
@@ -82,23 +96,36 @@ module _ (options : Options) (p : Progress) (l l' t t' : Option (List ℕ)) (u :
       whole : IsReadWhole l l'' u.read
       whole = record { consumed = subst (Consumes l l'') (append-nil u.read) (Consumes-trans l l' l'' _ _ u.consumed consumed); at_end = z; short = u.few }
 
-      completed : (flag : Bool) → Appends t' t'' (closing_text p.options.stop p.names p.session ending) → (p.refused || is_ending_refused ending) ≡ flag
-          → Headline p.names (entries_of p.session) → Completed p.options.steps p.options.stop l l'' t t'' flag
-      completed flag w is valid = record {
-        bytes = u.read;
-        run = run_of;
-        reading = IsReadFor.to_end on whole;
-        refusal = ap (λ b. b || is_ending_refused ending) (sym u.answered.refused) ∙ is;
-        written = subst (Appends t t'') (sym (output_on (answers_text u.answers) (closing_text p.options.stop p.names p.session ending) _ on)) (Appends-trans t t' t'' _ _ u.written w);
-        headline = λ _. valid;
-      }
+      completed : (flag : Bool) → IsClosed p.options.stop p.names p.session ending t' t'' → (p.refused || is_ending_refused ending) ≡ flag
+          → Completed p.options.steps p.options.stop l l'' t t'' flag
+      completed flag h is =
+          let refusal = ap (λ b. b || is_ending_refused ending) (sym u.answered.refused) ∙ is in
+          record {
+            bytes = u.read;
+            run = run_of;
+            reading = IsReadFor.to_end on whole;
+            refusal = refusal;
+            development = h.development;
+            output = answers_text u.answers ++ h.text;
+            is_output = record { closing = h.text; closes = closes_on on h.closes; is = refl };
+            written = Appends-trans t t' t'' _ _ u.written h.written;
+            headline = λ none. h.headline (ending_goes_on p.options.stop (some_refused u.answers) (is_ending_refused ending) (ap (λ b. p.options.stop && b) refusal ∙ none));
+          }
 
-      in_closing : AppendsFront t' t'' (closing_text p.options.stop p.names p.session ending) → CutOff p.options.steps p.options.stop l l'' t t''
-      in_closing f = CutOff.in_closing (record { bytes = u.read; reading = whole; run = run_of; goes_on = on; written = past_behind t t' t'' _ _ u.written f })
+      in_closing : IsClosedInPart p.options.stop p.names p.session ending t' t'' → CutOff p.options.steps p.options.stop l l'' t t''
+      in_closing f = CutOff.in_closing (record {
+        bytes = u.read;
+        reading = whole;
+        run = run_of;
+        goes_on = on;
+        closing = f.0;
+        closes = f.1;
+        written = past_behind t t' t'' _ _ u.written f.2;
+      })
 
       finished_so : (status : Status) → IsFinished p.options.stop p.names p.session p.refused ending t' t'' status → Outcome p.options.steps p.options.stop l l'' t t'' status
-      finished_so Accepted f = completed false f.0 f.1 f.2
-      finished_so Refused f = completed true f.0 f.1 f.2
+      finished_so Accepted f = completed false f.0 f.1
+      finished_so Refused f = completed true f.0 f.1
       finished_so WriteFault f = in_closing f
       finished_so Memory f = in_closing f
       finished_so Usage f = absurd f
@@ -155,7 +182,10 @@ module _ (options : Options) (p : Progress) (l l' t t' : Option (List ℕ)) (u :
                 near = omega (arith, near, h.some, h.within, length-drop h.used q);
               });
               refusal = ap (λ r. r || false) (and_right p'.options.stop (some_refused (u.answers ++ more)) early);
-              written = subst (Appends t t'') (sym (output_early (answers_text (u.answers ++ more)) _ _ early ∙ text-push u.answers more)) (Appends-trans t t' t'' _ _ u.written w);
+              development = [];
+              output = answers_text (u.answers ++ more) ++ [];
+              is_output = record { closing = []; closes = match_passed (ends_early p'.options.stop (u.answers ++ more)) _ _ early refl; is = refl };
+              written = subst (Appends t t'') (sym (append-nil (answers_text (u.answers ++ more)) ∙ text-push u.answers more)) (Appends-trans t t' t'' _ _ u.written w);
               headline = λ none. absurd (false≢true (sym none ∙ ap (λ b. b && true) (and_left p'.options.stop (some_refused (u.answers ++ more)) early)));
             }
 

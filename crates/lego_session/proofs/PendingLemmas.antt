@@ -39,9 +39,9 @@ split_right xs ys gap body e l = split_left gap body xs ys (sym e) l
 
 -- nothing is kept of no bytes
 pub kept_none : (first : Place) (kept : List ℕ) (place : Place) → IsKept first kept place []
-kept_none first kept place gap [] e blank begins = absurd (no_token begins)
-kept_none first kept place [] (b ∷ body) e blank begins = absurd (cc)
-kept_none first kept place (g ∷ gap) (b ∷ body) e blank begins = absurd (cc)
+kept_none first kept place gap [] e skipped begins = absurd (no_token begins)
+kept_none first kept place [] (b ∷ body) e skipped begins = absurd (cc)
+kept_none first kept place (g ∷ gap) (b ∷ body) e skipped begins = absurd (cc)
 
 pub marked_none : (comment : Place) (place : Place) → IsMarked comment place []
 marked_none comment place front [] e unbroken opened = absurd (no_comment opened)
@@ -50,20 +50,20 @@ marked_none comment place (g ∷ front) (b ∷ text) e unbroken opened = absurd 
 
 -- where a command has begun is one index
 pub start_is : {from : ℕ} {bytes : List ℕ} {start : Option ℕ} → HasStarted from bytes start → IsStart from bytes start
-start_is (HasStarted.blank {gap = g} h) gap body e blank begins =
-    let same = same_gap h blank [] body due_end (due_token body begins) (append-nil g ∙ e) in
+start_is (HasStarted.blank {gap = g} h) gap body e skipped begins =
+    let same = same_gap h skipped [] body due_end (due_token body begins) (append-nil g ∙ e) in
     absurd (no_token (subst BeginsToken (sym same.1) begins))
-start_is (HasStarted.open_comment {gap = g} {comment = c} h o) gap body e blank begins =
-    let same = same_gap h blank c body (due_open c o) (due_token body begins) e in
+start_is (HasStarted.open_comment {gap = g} {comment = c} h o) gap body e skipped begins =
+    let same = same_gap h skipped c body (due_open c o) (due_token body begins) e in
     absurd (true≢false (sym (ap begins_comment (sym same.1) ∙ o.begins) ∙ begins.no_comment))
-start_is {from} (HasStarted.token {gap = g} {body = b} h t) gap body e blank begins =
-    let same = same_gap h blank b body (due_token b t) (due_token body begins) e in
+start_is {from} (HasStarted.token {gap = g} {body = b} h t) gap body e skipped begins =
+    let same = same_gap h skipped b body (due_token b t) (due_token body begins) e in
     ap (λ xs. Some (from + length xs)) same.0
 
 -- so it is of a whole command
 pub start_of_command : (from : ℕ) {bytes gap body : List ℕ} → Gap gap → BeginsToken body → bytes ≡ gap ++ body → IsStart from bytes (Some (from + length gap))
-start_of_command from {bytes} {gap} {body} h t e other rest e' blank begins =
-    let same = same_gap h blank body rest (due_token body t) (due_token rest begins) (sym e ∙ e') in
+start_of_command from {bytes} {gap} {body} h t e other rest e' skipped begins =
+    let same = same_gap h skipped body rest (due_token body t) (due_token rest begins) (sym e ∙ e') in
     ap (λ xs. Some (from + length xs)) same.0
 
 some_is : (m n : ℕ) → Some m ≡ Some n → m ≡ n
@@ -89,7 +89,7 @@ from_on n xs = take_all (length xs - n) (drop n xs) (omega (arith, length-drop n
 module _ (place : Place) (from : ℕ) (old bytes : List ℕ) where
   -- no command has begun
   pub keeps_none : (first : Place) (kept : List ℕ) → IsStart from (old ++ bytes) None → IsKept first kept place (old ++ bytes)
-  keeps_none first kept s gap body e blank begins = absurd (none_some (s gap body e blank begins))
+  keeps_none first kept s gap body e skipped begins = absurd (none_some (s gap body e skipped begins))
     where
       none_some : None ≡ Some (from + length gap) → ⊥
       none_some h = cc
@@ -97,12 +97,12 @@ module _ (place : Place) (from : ℕ) (old bytes : List ℕ) where
   -- it began before
   pub keeps_on : (first : Place) (kept new : List ℕ) (start : ℕ) → IsStart from (old ++ bytes) (Some start) → start < from + length old → IsKept first kept place old
       → new ≡ kept ++ take (65536 - length kept) bytes → IsKept first new place (old ++ bytes)
-  keeps_on first kept new start s inside k is gap body e blank begins =
-      let at : start ≡ from + length gap = some_is _ _ (s gap body e blank begins) in
+  keeps_on first kept new start s inside k is gap body e skipped begins =
+      let at : start ≡ from + length gap = some_is _ _ (s gap body e skipped begins) in
       let short : length gap < length old = omega (arith, at, inside) in
       let parts = split_left old bytes gap body e (omega (arith, short)) in
       let some : 0 < length parts.0 = omega (arith, short, ap length parts.1, length-append gap parts.0) in
-      let before = k gap parts.0 parts.1 blank (front_begins parts.0 bytes some (subst BeginsToken parts.2 begins)) in (
+      let before = k gap parts.0 parts.1 skipped (front_begins parts.0 bytes some (subst BeginsToken parts.2 begins)) in (
         before.0,
         is ∙ (ap (λ xs. xs ++ take (65536 - length xs) bytes) before.1 ∙ (take_more_of 65536 parts.0 bytes ∙ ap (take 65536) (sym parts.2))),
       )
@@ -111,8 +111,8 @@ module _ (place : Place) (from : ℕ) (old bytes : List ℕ) where
   module _ (here : Place) (is : here ≡ behind place old) (at start : ℕ) (at_is : at ≡ min (start - (from + length old)) (length bytes)) where
     pub keeps_anew : (new : List ℕ) → IsStart from (old ++ bytes) (Some start) → from + length old ≤ start
         → new ≡ [] ++ take (65536 - 0) (drop at bytes) → IsKept (behind here (take at bytes)) new place (old ++ bytes)
-    keeps_anew new s outside new_is gap body e blank begins =
-        let there : start ≡ from + length gap = some_is _ _ (s gap body e blank begins) in
+    keeps_anew new s outside new_is gap body e skipped begins =
+        let there : start ≡ from + length gap = some_is _ _ (s gap body e skipped begins) in
         let long : length old ≤ length gap = omega (arith, there, outside) in
         let parts = split_right old bytes gap body e long in
         let count : at ≡ length parts.0 = omega (arith, at_is, there, ap length parts.1, length-append old parts.0, ap length parts.2, length-append parts.0 body) in

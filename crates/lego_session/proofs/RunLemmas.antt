@@ -1,13 +1,12 @@
 -- A run goes on by one command.
-use Rattle.std.proofs.Common.{◌≡◌, ℕ, ◌+◌, ◌≤◌, Bool, true, false, ◌||◌, ◌&&◌, if◌then◌else◌, List, [], ◌∷◌, ◌++◌, length, take, Option, refl, sym, ap, ◌∙◌, subst, arith, append-nil, append_assoc, length-append}
+use Rattle.std.proofs.Common.{◌≡◌, ℕ, ◌+◌, Bool, true, false, ◌||◌, ◌&&◌, List, [], ◌∷◌, ◌++◌, refl, sym, ap, ◌∙◌, subst, append-nil, length-append}
 use Rattle.std.proofs.Math.Bool.{or-false}
 use Rattle.std.proofs.lemmas.List.Folds.{list_any-append}
 use Rattle.std.proofs.lemmas.Grind.{flat_map-append}
 use mathlib.Core.Bool.{true≢false}
 use Rattle.lego_base.specs.Place.{behind}
-use Rattle.lego_base.specs.declared.place.Place.{Place}
 use Rattle.lego_lexer.specs.Bytes.{Gap}
-use Rattle.lego_lexer.specs.Commands.{CommandText, First, Begins, Cuts, Ending, Whole, HasEnded}
+use Rattle.lego_lexer.specs.Commands.{CommandText, First, Begins, Cuts, Ending, Whole}
 use Rattle.lego_lexer.proofs.Fronts.{none_ended, one_ended, ended_join, the_command}
 use Rattle.lego_grammar.specs.Grammar.{Names}
 use Rattle.lego_session.specs.Sessions.{Session, empty_session}

@@ -11,7 +11,7 @@ use Rattle.lego_grammar.specs.Refusals.{IsUnexpected, IsTooDeep}
 use Rattle.lego_parser.specs.Numbering.{names_behind, AreTooMany, IsFront, max_names}
 use Rattle.lego_grammar.specs.Written.{WrittenCommand}
 use Rattle.lego_session.specs.Reading.{is_built}
-use Rattle.lego_session.specs.Refusals.{Scope, refusal_text}
+use Rattle.lego_session.specs.Refusals.{refusal_text}
 use Rattle.lego_session.specs.Sessions.{Session, entries_of}
 use Rattle.lego_session.specs.Step.{Reply, Step}
 use Rattle.lego_session.specs.declared.refusal.Cause.{Cause}
@@ -79,10 +79,6 @@ pub data IsUnread (held left : Names) (c : CommandText) : Place → Cause → Ty
   unbuilt : {o : WrittenCommand} {t : Placed} → (command : IsNumberedCommand held left c o) → is_built o.act ≡ false
       → slice_get command.command.tokens 0 ≡ Some t → IsUnread held left c t.place (Unexpected (token_text c t))
 
--- what is in scope where bytes are no command
-abbrev pub scope_of : Session → Scope
-scope_of s = record { entries = entries_of s }
-
 -- the answer to one command's bytes, and the numbering and the session that it leaves
 pub data Answers (limit : ℕ) (held : Names) (old : Session) (c : CommandText) : Reply → Names → Session → Type 0 where
   step : {names : Names} {o : WrittenCommand} {answer : Reply} {new : Session}
@@ -90,4 +86,4 @@ pub data Answers (limit : ℕ) (held : Names) (old : Session) (c : CommandText) 
       → Answers limit held old c answer names new
   unread : {names : Names} {p : Place} {cause : Cause}
       → IsNumbering names → IsUnread held names c p cause
-      → Answers limit held old c (record { refused = true; text = refusal_text names (scope_of old) p cause }) names old
+      → Answers limit held old c (record { refused = true; text = refusal_text names (entries_of old) p cause }) names old

@@ -1,6 +1,7 @@
 pub mod Sessions
 pub mod Names
 pub mod Reading
+pub mod Causes
 pub mod Texts
 pub mod Refusals
 pub mod commands
@@ -11,4 +12,5 @@ pub mod Runs
 pub mod Statuses
 pub mod Outcomes
 pub mod Laws
+pub mod Completeness
 pub mod private

@@ -1,53 +1,63 @@
--- Names by their numbers.
-use Rattle.std.specs.Prelude.{◌≡◌, ℕ, List, [], Option, Some, IfSome, slice_get, unwrap_or, All}
+-- What a session keeps of the names that its entries have.
+use Rattle.std.specs.Prelude.{◌≡◌, ℕ, nat_lt, Bool, true, ◌&&◌, List, length, Option, Some, None, IsTrue, IfSome, All}
 use Rattle.std.specs.List.{AllByRecursion}
-use Rattle.lego_term.specs.Trees.{Core, Var, Const, Prop, Univ, Pi, Lam, App, Sigma, Pair, Fst, Snd, Let}
+use Rattle.lego_term.specs.declared.binder.Binder.{Binder}
 use Rattle.lego_lexer.specs.Tokens.{Name, token_of}
 use Rattle.lego_grammar.specs.Grammar.{Names}
-use Rattle.lego_kernel.specs.declared.entry.Entry.{Entry}
+use Rattle.lego_grammar.specs.Written.{WrittenKind, Assumed, Defined, WrittenBinding}
+use Rattle.lego_inference.specs.Binders.{BinderKind, BindersPass}
+use Rattle.lego_inference.specs.declared.entry.Entry.{Entry as Item}
+use Rattle.lego_context.specs.Contexts.{Contents}
+use Rattle.lego_reading.specs.Written.{EachWrittenBinder}
+use Rattle.lego_session.specs.Reading.{is_plain}
 use Rattle.lego_session.specs.Sessions.{Session, HoldsThroughout}
 
--- the text of a number
-abbrev pub name_text : Names → ℕ → List ℕ
-name_text names n = unwrap_or (slice_get names n) []
+-- each text of the numbering is a name
+abbrev pub AreTrueNames : Names → Type 0
+AreTrueNames names = All (λ text. token_of text ≡ Some (Name text)) names
 
--- the number is held, and its text is a name
-pub record IsHeldName (names : Names) (n : ℕ) : Type 0 where
-  pub text : List ℕ
-  pub held : slice_get names n ≡ Some text
-  pub is_name : token_of text ≡ Some (Name text)
+-- the numbering has a text of this number
+abbrev pub is_held : Names → ℕ → Bool
+is_held names n = nat_lt n (length names)
+
+-- so it has of an entry's or a binder's name, where there is one
+abbrev pub is_held_where : Names → Option ℕ → Bool
+is_held_where names None = true
+is_held_where names (Some n) = is_held names n
+
+-- the binder is plain, and its name is held
+abbrev pub is_known_binder : Names → BinderKind → Binder → Bool
+is_known_binder names kind x = is_plain x.mark && is_held_where names x.name
+
+-- the entry is plain, and the names that occur in it, as its own or as a binder's, are held
+pub record IsKnown (names : Names) (e : Item) : Type 0 where
+  pub name : is_held_where names e.name ≡ true
+  pub plain : is_plain e.mark ≡ true
+  pub ty : BindersPass (is_known_binder names) e.ty
+  pub body : IfSome e.body (BindersPass (is_known_binder names))
+
+abbrev pub AreKnown : Names → Contents → Type 0
+AreKnown names c = All (IsKnown names) c.entries
+
+-- the texts of the numbering are names, and the entries of the present state and of the history's states are known by it
+pub record IsKnownSession (names : Names) (s : Session) : Type 0 where
+  pub true_names : AreTrueNames names
+  pub known : HoldsThroughout (AreKnown names) s
 
 -- each of these names is held
 abbrev pub AreHeld : Names → List ℕ → Type 0
-AreHeld names ns = AllByRecursion (IsHeldName names) ns
+AreHeld names ns = AllByRecursion (λ n. is_held names n ≡ true) ns
 
--- the name of an entry or a binder is held, where it has one
-abbrev pub IsHeldWhere : Names → Option ℕ → Type 0
-IsHeldWhere names name = IfSome name (IsHeldName names)
+-- the name of the binder is held, where it has one
+abbrev pub IsHeldBinder : Names → BinderKind → Binder → Type 0
+IsHeldBinder names kind x = IsTrue (is_held_where names x.name)
 
--- the names of the term's binders are held
-abbrev pub AreBindersHeld : Names → Core → Type 0
-AreBindersHeld names (Var i) = Unit {0}
-AreBindersHeld names (Const k) = Unit {0}
-AreBindersHeld names Prop = Unit {0}
-AreBindersHeld names (Univ l) = Unit {0}
-AreBindersHeld names (Pi x a b) = IsHeldWhere names x.name × AreBindersHeld names a × AreBindersHeld names b
-AreBindersHeld names (Lam x a m) = IsHeldWhere names x.name × AreBindersHeld names a × AreBindersHeld names m
-AreBindersHeld names (App mark m n) = AreBindersHeld names m × AreBindersHeld names n
-AreBindersHeld names (Sigma x a b) = IsHeldWhere names x.name × AreBindersHeld names a × AreBindersHeld names b
-AreBindersHeld names (Pair x a b m n) =
-    IsHeldWhere names x.name × AreBindersHeld names a × AreBindersHeld names b × AreBindersHeld names m × AreBindersHeld names n
-AreBindersHeld names (Fst m) = AreBindersHeld names m
-AreBindersHeld names (Snd m) = AreBindersHeld names m
-AreBindersHeld names (Let x m n) = IsHeldWhere names x.name × AreBindersHeld names m × AreBindersHeld names n
+-- the names of the binders in the written terms are held
+abbrev pub AreKindHeld : Names → WrittenKind → Type 0
+AreKindHeld names (Assumed mark t) = EachWrittenBinder (IsHeldBinder names) t
+AreKindHeld names (Defined m None) = EachWrittenBinder (IsHeldBinder names) m
+AreKindHeld names (Defined m (Some t)) = EachWrittenBinder (IsHeldBinder names) m × EachWrittenBinder (IsHeldBinder names) t
 
--- each name that occurs in the entry, as its own or as a binder's, is held
-abbrev pub IsKnown : Names → Entry → Type 0
-IsKnown names e = IsHeldWhere names e.name × AreBindersHeld names e.ty
-
-abbrev pub AreKnown : Names → List Entry → Type 0
-AreKnown names es = All (IsKnown names) es
-
--- so of the entries of the present state and of the history's states
-abbrev pub IsKnownSession : Names → Session → Type 0
-IsKnownSession names s = HoldsThroughout (AreKnown names) s
+-- the names that bindings make, and those in their written terms, are held
+abbrev pub AreBoundHeld : Names → List WrittenBinding → Type 0
+AreBoundHeld names bs = AllByRecursion (λ b. AreHeld names b.names × AreKindHeld names b.kind) bs

@@ -5,10 +5,10 @@ use Rattle.std.specs.Io.KnownBytes.{Appends, Consumes, IsAtEnd}
 use Rattle.lego_base.specs.Bytes.{AppendsFront}
 use Rattle.lego_lexer.specs.Commands.{HasEnded}
 use Rattle.lego_session.specs.Headline.{Headline}
-use Rattle.lego_session.specs.Sessions.{entries_of}
+use Rattle.lego_session.specs.Sessions.{context_of}
 use Rattle.lego_session.specs.Step.{Reply}
 use Rattle.lego_session.specs.Texts.{first_place}
-use Rattle.lego_session.specs.Runs.{Run, answers_text, closing_text, output_of, refuses, ends_early}
+use Rattle.lego_session.specs.Runs.{Run, answers_text, IsClosing, IsOutput, refuses, ends_early}
 use Rattle.lego_session.specs.declared.status.Status.{Status}
 use Rattle.lego_session.specs.declared.status.Status.TheVariants.{Accepted, Refused, Usage, ReadFault, WriteFault, Memory, OpenProof, TooLong}
 
@@ -35,14 +35,18 @@ pub data IsReadFor (left left' : Option (List ℕ)) {limit : ℕ} {stop : Bool} 
   to_end : ends_early stop run.answers ≡ false → IsReadWhole left left' bytes → IsReadFor left left' run
   to_refused : IsReadToRefused left left' run → IsReadFor left left' run
 
--- The run came to its end, and all of its output was taken. Where `--stop` didn't end it, the development is printed.
+-- The run came to its end, and all of its output was taken. Where `--stop` didn't end it, the development is printed, and denotes
+-- the entries.
 pub record Completed (limit : ℕ) (stop : Bool) (left left' taken taken' : Option (List ℕ)) (refused : Bool) : Type 0 where
   pub bytes : List ℕ
   pub run : Run limit stop first_place bytes
   pub reading : IsReadFor left left' run
   pub refusal : refuses run ≡ refused
-  pub written : Appends taken taken' (output_of run)
-  pub headline : (stop && refused) ≡ false → Headline run.names (entries_of run.session)
+  pub development : List ℕ
+  pub output : List ℕ
+  pub is_output : IsOutput run development output
+  pub written : Appends taken taken' output
+  pub headline : (stop && refused) ≡ false → Headline run.names (context_of run.session) development
 
 -- the commands that ended within the bytes are answered, none of them ended the run, and the answers were taken
 pub record AnswersAll (limit : ℕ) (stop : Bool) (bytes : List ℕ) (taken taken' : Option (List ℕ)) : Type 0 where
@@ -93,9 +97,11 @@ pub record IsCutInClosing (limit : ℕ) (stop : Bool) (left left' taken taken' :
   pub reading : IsReadWhole left left' bytes
   pub run : Run limit stop first_place bytes
   pub goes_on : ends_early stop run.answers ≡ false
-  pub written : AppendsPast taken taken' (answers_text run.answers) (closing_text stop run.names run.session run.ending)
+  pub closing : List ℕ
+  pub closes : IsClosing stop run.names run.session run.ending closing
+  pub written : AppendsPast taken taken' (answers_text run.answers) closing
 
--- what was taken is a front of the output
+-- what was taken is a front of an output
 pub data CutOff (limit : ℕ) (stop : Bool) (left left' taken taken' : Option (List ℕ)) : Type 0 where
   among_answers : IsCutAmongAnswers limit stop left left' taken taken' → CutOff limit stop left left' taken taken'
   in_closing : IsCutInClosing limit stop left left' taken taken' → CutOff limit stop left left' taken taken'

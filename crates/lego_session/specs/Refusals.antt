@@ -1,81 +1,93 @@
 -- The text of a refusal.
-use Rattle.std.specs.Prelude.{ℕ, ◌+◌, ◌/◌, ◌%◌, nat_le, nat_lt, ◌&&◌, if◌then◌else◌, List, [], ◌∷◌, ◌++◌, codes, decimal}
+use Rattle.std.specs.Prelude.{ℕ, List, [], ◌++◌, codes, decimal, Option, Some, None}
 use Rattle.lego_base.specs.declared.place.Place.{Place}
 use Rattle.lego_term.specs.declared.seen.Seen.{Seen}
 use Rattle.lego_grammar.specs.Grammar.{Names}
-use Rattle.lego_kernel.specs.declared.entry.Entry.{Entry}
-use Rattle.lego_kernel.specs.declared.fault.Counted.{Counted}
-use Rattle.lego_kernel.specs.declared.fault.Counted.TheVariants.{Entries, Levels}
-use Rattle.lego_session.specs.Names.{name_text}
-use Rattle.lego_session.specs.Texts.{type_text}
+use Rattle.lego_level.specs.declared.constraint.Constraint.{Constraint}
+use Rattle.lego_inference.specs.declared.entry.Entry.{Entry as Item}
+use Rattle.lego_inference.specs.declared.fault.Counted.{Counted}
+use Rattle.lego_inference.specs.declared.fault.Counted.TheVariants.{Entries, Levels}
+use Rattle.lego_print.specs.declared.heading.Heading.{Heading}
+use Rattle.lego_print.specs.declared.shown.Shown.TheVariants.{Hidden}
+use Rattle.lego_print.specs.Names.{Scope, name_text}
+use Rattle.lego_print.specs.Texts.{seen_text, typing_text}
+use Rattle.lego_print.specs.Lines.{refusal_lines}
+use Rattle.lego_print.specs.Refusals.{byte_text}
+use Rattle.lego_session.specs.Texts.{entries_scope}
 use Rattle.lego_session.specs.declared.refusal.Cause.{Cause}
-use Rattle.lego_session.specs.declared.refusal.Cause.TheVariants.{BadByte, OpenComment, LongName, BigLevel, Unexpected, TooDeep, Unended, LongCommand, NamesFull, UnknownName, NameInUse, NotAType, TooLarge, Full, TooFar, Memory}
+use Rattle.lego_session.specs.declared.refusal.Cause.TheVariants.{BadByte, OpenComment, LongName, BigLevel, Unexpected, TooDeep, Unended, LongCommand, NamesFull, UnknownName, UnknownGoal, NameInUse, NotAType, NotAFunction, NotAPair, Mismatch, Universe, Budget, TooLarge, LevelTooBig, Full, NotSigma, TooFar, Memory}
 
--- a place: its line, a colon, its column
-abbrev pub place_text : Place → List ℕ
-place_text p = decimal p.line ++ codes ":" ++ decimal p.column
+-- the heading of a cause; want of memory has none
+abbrev pub heading : Cause → Option Heading
+heading (BadByte byte) = Some Heading.BadByte
+heading OpenComment = Some Heading.OpenComment
+heading LongName = Some Heading.LongName
+heading BigLevel = Some Heading.BigLevel
+heading (Unexpected token) = Some Heading.Unexpected
+heading TooDeep = Some Heading.TooDeep
+heading Unended = Some Heading.Unended
+heading (LongCommand bytes) = Some Heading.LongCommand
+heading NamesFull = Some Heading.NamesFull
+heading (UnknownName name) = Some Heading.UnknownName
+heading (UnknownGoal number) = Some Heading.UnknownGoal
+heading (NameInUse name) = Some Heading.NameInUse
+heading (NotAType term got) = Some Heading.NotAType
+heading (NotAFunction term got) = Some Heading.NotAFunction
+heading (NotAPair term got) = Some Heading.NotAPair
+heading (Mismatch term have want) = Some Heading.Mismatch
+heading (Universe cycle) = Some Heading.Universe
+heading (Budget left right) = Some Heading.Budget
+heading (TooLarge nodes depth) = Some Heading.TooLarge
+heading (LevelTooBig constraint needed) = Some Heading.LevelTooBig
+heading (Full of held) = Some Heading.Full
+heading (NotSigma got) = Some Heading.NotSigma
+heading (TooFar asked held) = Some Heading.TooFar
+heading Memory = None
 
--- a hexadecimal digit, with capital letters
-abbrev pub hex_digit : ℕ → ℕ
-hex_digit n = if nat_lt n 10 then 48 + n else 55 + n
-
--- the byte itself where it is printed, else `\x` and its two hexadecimal digits
-abbrev pub byte_text : ℕ → List ℕ
-byte_text b = if nat_le 0x21 b && nat_le b 0x7E then b ∷ [] else codes "\\x" ++ hex_digit (b / 16) ∷ hex_digit (b % 16) ∷ []
-
--- what is in scope where a command is refused: the entries, those of earlier bindings of the command among them
-pub record Scope : Type 0 where
-  pub entries : List Entry
-
--- a term of a refusal; so far it is a type
-abbrev pub seen_text : Names → Scope → Seen → List ℕ
-seen_text names scope s = type_text names scope.entries 0 s.term
+-- a term under the binders around it; levels are hidden
+abbrev pub hidden_text : Scope → Seen → List ℕ
+hidden_text scope seen = seen_text Hidden scope seen
 
 abbrev pub counted_text : Counted → List ℕ
 counted_text Entries = codes "entries "
 counted_text Levels = codes "levels "
 
--- the number and the name of a cause; want of memory is answered with no text
-pub record Heading : Type 0 where
-  pub number : ℕ
-  pub name : List ℕ
+-- the left side, and a right side behind a comma, where there is one
+abbrev pub sides_text : Scope → Seen → Option Seen → List ℕ
+sides_text scope left None = hidden_text scope left
+sides_text scope left (Some right) = hidden_text scope left ++ codes ", " ++ hidden_text scope right
 
-abbrev pub heading : Cause → Heading
-heading (BadByte byte) = record { number = 1; name = codes "BadByte" }
-heading OpenComment = record { number = 2; name = codes "OpenComment" }
-heading LongName = record { number = 3; name = codes "LongName" }
-heading BigLevel = record { number = 4; name = codes "BigLevel" }
-heading (Unexpected token) = record { number = 5; name = codes "Unexpected" }
-heading TooDeep = record { number = 6; name = codes "TooDeep" }
-heading Unended = record { number = 7; name = codes "Unended" }
-heading (LongCommand bytes) = record { number = 8; name = codes "LongCommand" }
-heading NamesFull = record { number = 9; name = codes "NamesFull" }
-heading (UnknownName name) = record { number = 10; name = codes "UnknownName" }
-heading (NameInUse name) = record { number = 12; name = codes "NameInUse" }
-heading (NotAType term got) = record { number = 13; name = codes "NotAType" }
-heading (TooLarge nodes levels) = record { number = 19; name = codes "TooLarge" }
-heading (Full of held) = record { number = 21; name = codes "Full" }
-heading (TooFar asked held) = record { number = 38; name = codes "TooFar" }
-heading Memory = record { number = 0; name = [] }
+-- the details of a cause, with the names in scope
+abbrev pub details_text : Scope → Cause → List ℕ
+details_text scope (BadByte byte) = byte_text byte
+details_text scope (Unexpected token) = token
+details_text scope (LongCommand bytes) = decimal bytes
+details_text scope (UnknownName name) = name_text scope.names name
+details_text scope (UnknownGoal number) = codes "?" ++ decimal number
+details_text scope (NameInUse name) = name_text scope.names name
+details_text scope (NotAType term got) = typing_text Hidden scope term got
+details_text scope (NotAFunction term got) = typing_text Hidden scope term got
+details_text scope (NotAPair term got) = typing_text Hidden scope term got
+details_text scope (Mismatch term have want) =
+    hidden_text scope term ++ codes " : " ++ hidden_text scope have ++ codes ", wanted " ++ hidden_text scope want
+details_text scope (Budget left right) = sides_text scope left right
+details_text scope (TooLarge nodes depth) = decimal nodes ++ codes ", " ++ decimal depth
+details_text scope (LevelTooBig constraint needed) = decimal needed
+details_text scope (Full of held) = counted_text of ++ decimal held
+details_text scope (NotSigma got) = hidden_text scope got
+details_text scope (TooFar asked held) = decimal asked ++ codes ", " ++ decimal held
+details_text scope _ = []
 
--- the details of a cause, each behind a blank; nothing where there are none
-abbrev pub details_text : Names → Scope → Cause → List ℕ
-details_text names scope (BadByte byte) = codes " " ++ byte_text byte
-details_text names scope (Unexpected token) = codes " " ++ token
-details_text names scope (LongCommand bytes) = codes " " ++ decimal bytes
-details_text names scope (UnknownName name) = codes " " ++ name_text names name
-details_text names scope (NameInUse name) = codes " " ++ name_text names name
-details_text names scope (NotAType term got) = codes " " ++ seen_text names scope term ++ codes " : " ++ seen_text names scope got
-details_text names scope (TooLarge nodes levels) = codes " " ++ decimal nodes ++ codes ", " ++ decimal levels
-details_text names scope (Full of held) = codes " " ++ counted_text of ++ decimal held
-details_text names scope (TooFar asked held) = codes " " ++ decimal asked ++ codes ", " ++ decimal held
-details_text names scope _ = []
+-- the constraints whose lines follow the first line
+abbrev pub cycle_of : Cause → List Constraint
+cycle_of (Universe cycle) = cycle
+cycle_of _ = []
 
--- the name of a cause and its details
-abbrev pub cause_text : Names → Scope → Cause → List ℕ
-cause_text names scope cause = (heading cause).name ++ details_text names scope cause
+-- the lines of a refusal, where it has a heading
+abbrev pub lines_under : Option Heading → Place → List ℕ → List Constraint → List ℕ
+lines_under None place details cycle = []
+lines_under (Some heading) place details cycle = refusal_lines place heading details cycle
 
--- a refusal's line, with the names in scope
-abbrev pub refusal_text : Names → Scope → Place → Cause → List ℕ
-refusal_text names scope place cause =
-    codes "refused " ++ place_text place ++ codes " " ++ decimal (heading cause).number ++ codes " " ++ cause_text names scope cause ++ codes "\n"
+-- The text of a refusal, with the names of these entries in scope. Levels are hidden; want of memory has no text.
+abbrev pub refusal_text : Names → List Item → Place → Cause → List ℕ
+refusal_text names es place cause = lines_under (heading cause) place (details_text (entries_scope names es) cause) (cycle_of cause)

@@ -1,14 +1,14 @@
 -- Runs over the bytes of a script, and their output.
-use Rattle.std.specs.Prelude.{◌≡◌, ℕ, Bool, true, false, ◌||◌, ◌&&◌, if◌then◌else◌, List, [], ◌∷◌, ◌++◌}
+use Rattle.std.specs.Prelude.{◌≡◌, ℕ, Bool, true, false, ◌||◌, ◌&&◌, MatchBool, List, [], ◌∷◌, ◌++◌}
 use Rattle.std.specs.List.{flat_map, list_any}
 use Rattle.lego_base.specs.declared.place.Place.{Place}
 use Rattle.lego_lexer.specs.Commands.{CommandText, Cuts, Ending, Whole, Unended, OpenComment}
 use Rattle.lego_grammar.specs.Grammar.{Names}
-use Rattle.lego_session.specs.Answers.{Answers, scope_of}
+use Rattle.lego_session.specs.Answers.{Answers}
 use Rattle.lego_session.specs.Refusals.{refusal_text}
-use Rattle.lego_session.specs.Sessions.{Session, empty_session, entries_of}
+use Rattle.lego_session.specs.Sessions.{Session, empty_session, context_of, entries_of}
 use Rattle.lego_session.specs.Step.{Reply}
-use Rattle.lego_session.specs.Texts.{development_text}
+use Rattle.lego_session.specs.Texts.{IsPrinted}
 use Rattle.lego_session.specs.declared.refusal.Cause.TheVariants as Cause
 
 -- Commands are answered one after the other: each over the names and the session that the one before it left, and with this
@@ -35,8 +35,8 @@ pub record Run (limit : ℕ) (stop : Bool) (place : Place) (bytes : List ℕ) : 
 -- what stands behind the last `;` is refused at its first token, or at its open comment
 abbrev pub ending_text : Names → Session → Ending → List ℕ
 ending_text names s Whole = []
-ending_text names s (Unended place) = refusal_text names (scope_of s) place Cause.Unended
-ending_text names s (OpenComment place) = refusal_text names (scope_of s) place Cause.OpenComment
+ending_text names s (Unended place) = refusal_text names (entries_of s) place Cause.Unended
+ending_text names s (OpenComment place) = refusal_text names (entries_of s) place Cause.OpenComment
 
 abbrev pub is_ending_refused : Ending → Bool
 is_ending_refused Whole = false
@@ -53,17 +53,31 @@ some_refused answers = list_any (λ a. a.refused) answers
 abbrev pub ends_early : Bool → List Reply → Bool
 ends_early stop answers = stop && some_refused answers
 
--- the development, unless `--stop` ends the run with what stands behind the last `;`
-abbrev pub developed : Bool → Names → Session → Ending → List ℕ
-developed stop names s ending = if stop && is_ending_refused ending then [] else development_text names (entries_of s)
+-- a text of the development of the session's context; no text, where `--stop` ends the run with what stands behind the last `;`
+abbrev pub IsDeveloped : Bool → Names → Session → Ending → List ℕ → Type 0
+IsDeveloped stop names s ending text = MatchBool (stop && is_ending_refused ending) (text ≡ []) (IsPrinted names (context_of s) text)
 
--- what follows the answers, where each command is answered: the refusal of the ending, and the development
-abbrev pub closing_text : Bool → Names → Session → Ending → List ℕ
-closing_text stop names s ending = ending_text names s ending ++ developed stop names s ending
+-- What follows the answers, where each command is answered: the refusal of the ending, and a development. Universes of one place
+-- may stand there in any order; else the development is one text.
+pub record Closes (stop : Bool) (names : Names) (s : Session) (ending : Ending) (development text : List ℕ) : Type 0 where
+  pub developed : IsDeveloped stop names s ending development
+  pub is : text ≡ ending_text names s ending ++ development
 
--- the answers, and what follows them
-abbrev pub output_of : {limit : ℕ} {stop : Bool} {place : Place} {bytes : List ℕ} → Run limit stop place bytes → List ℕ
-output_of {stop = stop} r = answers_text r.answers ++ (if ends_early stop r.answers then [] else closing_text stop r.names r.session r.ending)
+-- what follows them as far as it was made: the refusal of the ending alone, or all
+pub data IsClosing (stop : Bool) (names : Names) (s : Session) (ending : Ending) : List ℕ → Type 0 where
+  refused : IsClosing stop names s ending (ending_text names s ending)
+  developed : {development text : List ℕ} → Closes stop names s ending development text → IsClosing stop names s ending text
+
+-- what follows the answers of a run; nothing where `--stop` ended it among its commands
+abbrev pub ClosesRun : {limit : ℕ} {stop : Bool} {place : Place} {bytes : List ℕ} → Run limit stop place bytes → (development text : List ℕ) → Type 0
+ClosesRun {stop = stop} r development text =
+    MatchBool (ends_early stop r.answers) (text ≡ []) (Closes stop r.names r.session r.ending development text)
+
+-- the output of a run: the answers, and what follows them
+pub record IsOutput {limit : ℕ} {stop : Bool} {place : Place} {bytes : List ℕ} (r : Run limit stop place bytes) (development text : List ℕ) : Type 0 where
+  pub closing : List ℕ
+  pub closes : ClosesRun r development closing
+  pub is : text ≡ answers_text r.answers ++ closing
 
 -- some command is refused, or what stands behind the last `;`
 abbrev pub refuses : {limit : ℕ} {stop : Bool} {place : Place} {bytes : List ℕ} → Run limit stop place bytes → Bool

@@ -1,51 +1,37 @@
--- Sessions: the present state with its number of level variables, and the history; and how a command moves them.
-use Rattle.std.specs.Prelude.{◌≡◌, ℕ, suc, ◌+◌, ◌≤◌, List, [], ◌∷◌, ◌++◌, length}
+-- Sessions: the present state and the history; and how a command moves them.
+use Rattle.std.specs.Prelude.{◌≡◌, ℕ, suc, List, [], ◌∷◌, ◌++◌, length}
 use Rattle.std.specs.List.{AllByRecursion}
-use Rattle.lego_kernel.specs.declared.entry.Entry.{Entry}
-use Rattle.lego_undo.specs.Histories.{Held}
+use Rattle.lego_inference.specs.declared.entry.Entry.{Entry as Item}
+use Rattle.lego_context.specs.Contexts.{Contents, empty}
 use Rattle.lego_undo.specs.declared.state.State.{State}
 
 -- the present state, and the old states, the oldest first
 pub record Session : Type 0 where
-  pub now : Held
-  pub history : List Held
+  pub now : State
+  pub history : List State
 
--- no entry, an empty history, and no level variable
+-- the empty context, and an empty history
 abbrev pub empty_session : Session
-empty_session = record { now = record { state = record { context = [] }; levels = 0 }; history = [] }
+empty_session = record { now = record { context = empty }; history = [] }
 
--- the entries of the present state
-abbrev pub entries_of : Session → List Entry
-entries_of s = s.now.state.context
+-- the context of the present state, and its entries
+abbrev pub context_of : Session → Contents
+context_of s = s.now.context
 
--- no level variable stands beside the present state or an old one
-pub record HasNoLevels (s : Session) : Type 0 where
-  pub now : s.now.levels ≡ 0
-  pub before : AllByRecursion (λ h. h.levels ≡ 0) s.history
+abbrev pub entries_of : Session → List Item
+entries_of s = (context_of s).entries
 
--- A command that counts for Undo: the old state goes to the history's end, with a number at most that beside it. So many
--- level variables may be new.
-pub record Moves (old : Session) (state : State) (allowed : ℕ) (new : Session) : Type 0 where
-  pub levels : ℕ
-  pub fewer : levels ≤ old.now.levels
-  pub state_is : new.now.state ≡ state
-  pub allows : new.now.levels ≤ old.now.levels + allowed
-  pub history_is : new.history ≡ old.history ++ record { state = old.now.state; levels = levels } ∷ []
-
--- a command that only prints: state and history stay
-pub record Stays (old : Session) (allowed : ℕ) (new : Session) : Type 0 where
-  pub state_is : new.now.state ≡ old.now.state
-  pub allows : new.now.levels ≤ old.now.levels + allowed
-  pub history_is : new.history ≡ old.history
+-- A command that counts for Undo: the session has this context, and the old state goes to the history's end.
+abbrev pub moved_to : Session → Contents → Session
+moved_to old context = record { now = record { context = context }; history = old.history ++ old.now ∷ [] }
 
 -- the last n steps are undone: the state before them is back, and they leave the history
 pub data Undoes (old : Session) : ℕ → Session → Type 0 where
   nothing : Undoes old 0 old
-  steps : {kept : List Held} (dropped : List Held) {back : Held} {new : Session}
-      → old.history ≡ kept ++ back ∷ dropped → new.now.state ≡ back.state → new.now.levels ≤ back.levels → new.history ≡ kept
-      → Undoes old (suc (length dropped)) new
+  steps : {kept : List State} (dropped : List State) {back : State}
+      → old.history ≡ kept ++ back ∷ dropped → Undoes old (suc (length dropped)) (record { now = back; history = kept })
 
--- the entries of the present state have the property, and so have those of the history's states
-pub record HoldsThroughout (P : List Entry → Type 0) (s : Session) : Type 0 where
-  pub now : P (entries_of s)
-  pub before : AllByRecursion (λ h. P h.state.context) s.history
+-- the context of the present state has the property, and so have those of the history's states
+pub record HoldsThroughout (P : Contents → Type 0) (s : Session) : Type 0 where
+  pub now : P (context_of s)
+  pub before : AllByRecursion (λ state. P state.context) s.history

@@ -1,45 +1,59 @@
--- The texts of types, entries and the development.
-use Rattle.std.specs.Prelude.{ℕ, nat_lt, nat_eq, if◌then◌else◌, List, [], ◌++◌, codes, find, option_map, unwrap_or}
-use Rattle.std.specs.List.{flat_map}
+-- The texts of entries, terms and the development.
+use Rattle.std.specs.Prelude.{◌≡◌, ℕ, List, [], ◌++◌, map, take, drop, codes}
 use Rattle.lego_base.specs.declared.place.Place.{Place}
-use Rattle.lego_term.specs.Trees.{Core, Const, Prop, Pi}
+use Rattle.lego_term.specs.Levels.{Assignment}
+use Rattle.lego_term.specs.Trees.{Core}
 use Rattle.lego_grammar.specs.Grammar.{Names}
-use Rattle.lego_kernel.specs.declared.entry.Entry.{Entry}
-use Rattle.lego_session.specs.Names.{name_text}
+use Rattle.lego_inference.specs.declared.entry.Entry.{Entry as Item}
+use Rattle.lego_inference.specs.declared.entry.Universe.{Universe}
+use Rattle.lego_inference.specs.Entries.{laws_entries}
+use Rattle.lego_context.specs.Contexts.{Contents}
+use Rattle.lego_context.specs.Entries.{names_of}
+use Rattle.lego_context.specs.Settling.{IsSettled}
+use Rattle.lego_print.specs.declared.shown.Shown.{Shown}
+use Rattle.lego_print.specs.declared.universes.Universe.{Universe as Listed}
+use Rattle.lego_print.specs.Names.{Scope}
+use Rattle.lego_print.specs.Texts.{outer_scope, term_text}
+use Rattle.lego_print.specs.EntryLines.{entry_lines}
+use Rattle.lego_print.specs.Developments.{name_in, IsDevelopment}
+use Rattle.lego_print.specs.ReadBack.{IsLeast}
 
 -- where a script begins
 abbrev pub first_place : Place
 first_place = record { line = 1; column = 1 }
 
--- the name of an entry
-abbrev pub entry_name : Names → Entry → List ℕ
-entry_name names e = unwrap_or (option_map (name_text names) e.name) []
+-- what the names of a text stand among: constants are called by all the entries, and some of these are in scope
+abbrev pub scope_among : Names → (all inside : List Item) → Scope
+scope_among names all inside = outer_scope names (name_in (laws_entries all)) (names_of inside)
 
--- the name of the entry whose number this is
-abbrev pub constant_text : Names → List Entry → ℕ → List ℕ
-constant_text names es k = unwrap_or (option_map (entry_name names) (find (λ e. nat_eq e.number k) es)) []
+-- all the entries are in scope
+abbrev pub entries_scope : Names → List Item → Scope
+entries_scope names es = scope_among names es es
 
--- in parentheses where a rank above 0 is wanted
-abbrev pub in_parens : ℕ → List ℕ → List ℕ
-in_parens wanted text = if nat_lt 0 wanted then codes "(" ++ text ++ codes ")" else text
+-- the line of each entry from a place on, at these values of the level variables; the entries before it are in scope
+pub record AreEntryLines (names : Names) (values : Assignment) (es : List Item) (from : ℕ) (text : List ℕ) : Type 0 where
+  pub levels : Shown
+  pub least : IsLeast levels values
+  pub is : text ≡ entry_lines levels (scope_among names es (take from es)) (laws_entries (drop from es))
 
--- A type, where this rank is wanted: an arrow has rank 0, and wants rank 1 on its left side.
-abbrev pub type_text : Names → List Entry → ℕ → Core → List ℕ
-type_text names es wanted Prop = codes "Prop"
-type_text names es wanted (Const k) = constant_text names es k
-type_text names es wanted (Pi x a b) = in_parens wanted (type_text names es 1 a ++ codes "->" ++ type_text names es 0 b)
-type_text names es wanted _ = []
+-- the line of a term
+pub record IsTermLine (names : Names) (values : Assignment) (es : List Item) (m : Core) (text : List ℕ) : Type 0 where
+  pub levels : Shown
+  pub least : IsLeast levels values
+  pub is : text ≡ term_text levels (entries_scope names es) 0 m ++ codes "\n"
 
--- `x : T`, and a line of it
-abbrev pub entry_text : Names → List Entry → Entry → List ℕ
-entry_text names es e = entry_name names e ++ codes " : " ++ type_text names es 0 e.ty
+-- the line of a term and its type
+pub record IsTypingLine (names : Names) (values : Assignment) (es : List Item) (m ty : Core) (text : List ℕ) : Type 0 where
+  pub levels : Shown
+  pub least : IsLeast levels values
+  pub is : text ≡ (term_text levels (entries_scope names es) 0 m ++ codes " : " ++ term_text levels (entries_scope names es) 0 ty) ++ codes "\n"
 
-abbrev pub entry_lines : Names → List Entry → List Entry → List ℕ
-entry_lines names es new = flat_map (λ e. entry_text names es e ++ codes "\n") new
+-- a written `Type` as a development lists it
+abbrev pub listed : Universe → Listed
+listed u = record { variable = u.variable; place = u.place }
 
--- `[x:T];`, and a line of it
-abbrev pub entry_command : Names → List Entry → Entry → List ℕ
-entry_command names es e = codes "[" ++ entry_name names e ++ codes ":" ++ type_text names es 0 e.ty ++ codes "];\n"
-
-abbrev pub development_text : Names → List Entry → List ℕ
-development_text names es = codes "Explicit;\n" ++ flat_map (entry_command names es) es
+-- the text of the development of a context, at its least levels
+pub record IsPrinted (names : Names) (c : Contents) (text : List ℕ) : Type 0 where
+  pub values : Assignment
+  pub settled : IsSettled c [] c.levels values
+  pub development : IsDevelopment values names (name_in (laws_entries c.entries)) (laws_entries c.entries) (map listed c.universes) text

@@ -1,10 +1,10 @@
 pub mod Binding
 pub mod Gathered
+pub mod Items
 pub mod Parts
 pub mod Pending
-pub mod Printable
 pub mod Progress
-pub mod Reading
 pub mod Refusals
 pub mod SessionCode
+pub mod Shown
 pub mod Unread

@@ -4,9 +4,9 @@ ghost use Rattle.lego_lexer.specs.Commands.{IsCommandText};
 ghost use Rattle.lego_grammar.specs.Surface.{written_command};
 ghost use Rattle.lego_grammar.specs.WrittenForm.{IsWrittenForm};
 ghost use Rattle.lego_session.specs.Answers.{Answers};
-ghost use Rattle.lego_session.specs.Names.{IsKnownSession};
+ghost use Rattle.lego_session.specs.Names.{AreBoundHeld, IsKnownSession};
 ghost use Rattle.lego_session.specs.Reading.{is_built};
-ghost use Rattle.lego_session.specs.Step.{Step};
+ghost use Rattle.lego_session.specs.Step.{Step, bindings_of};
 ghost use Rattle.lego_session.specs.private.Unread.{IsWritten};
 
 use crate::command_text::read_command;
@@ -81,6 +81,7 @@ fn run_command(
     requires form { IsWrittenForm command }
     requires built { is_built (written_command command).act ≡ true }
     ensures answered { IfSome result (λ a. Step names.now limit session.old (written_command command) (record { refused = a.refused; text = a.text }) session.new) }
+    ensures known { IsKnownSession names.now session.old → AreBoundHeld names.now (bindings_of (written_command command).act) → IsKnownSession names.now session.new }
     ensures none { IfNone result (session.new ≡ session.old) }
 {
     let outcome = session.step(names, &command, limit);

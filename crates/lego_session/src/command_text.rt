@@ -9,7 +9,7 @@ ghost use Rattle.lego_session.specs.Answers.{HasTokens, IsNumberedCommand, lex_p
 ghost use Rattle.lego_session.specs.private.Unread.{IsUnreadBy, StandsAt, FirstStandElsewhere, HasItsToken, IsUnexpectedToken, IsNotParsed};
 ghost use Rattle.lego_session.specs.Reading.{is_built};
 
-use crate::reading::is_built;
+use crate::built::is_built;
 use crate::refusal::{Cause, Reason};
 use lego_base::{Names, Place};
 use lego_grammar::Command;

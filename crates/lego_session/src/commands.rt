@@ -2,5 +2,8 @@
 
 pub(crate) mod bindings;
 pub(crate) mod ctxt;
+pub(crate) mod entries;
 pub(crate) mod forget;
+pub(crate) mod show;
+pub(crate) mod terms;
 pub(crate) mod undo;

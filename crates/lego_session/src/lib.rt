@@ -2,15 +2,17 @@
 #![tactic(auto)]
 
 mod answers;
+mod built;
 mod closing;
 mod command_text;
 mod commands;
+mod development;
+mod entries;
 mod gathered;
 mod laws;
 mod parts;
 mod pending;
 mod progress;
-mod reading;
 mod refusal;
 mod refusal_text;
 mod running;
@@ -18,8 +20,11 @@ mod session;
 mod status;
 mod text;
 
-pub use laws::{outcomes_are_one, runs_have_one_output, steps_have_one_reply};
-pub use reading::is_built;
+pub use built::is_built;
+pub use laws::{
+    commands_are_read_in_one_way, runs_have_one_cut, steps_have_one_reply,
+    typed_commands_meet_limits_alone,
+};
 pub use refusal::{Cause, Refusal};
 pub use running::run;
 pub use session::{Answer, Session};

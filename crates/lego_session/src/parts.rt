@@ -1,5 +1,5 @@
 //! The parts of a session, which commands change.
-ghost use Rattle.std.specs.Prelude.{◌≡◌};
+ghost use Rattle.lego_context.specs.Entries.{HasNoHole};
 ghost use Rattle.lego_session.specs.private.Refusals.{IsRefusalOf};
 
 use crate::refusal::{Cause, Refusal};
@@ -18,7 +18,8 @@ pub(crate) struct Parts {
 impl Parts {
     /// The refusal for a cause, over the entries as they are.
     pub(crate) fn refusal(&self, names: &Names, place: Place, cause: Cause) -> Refusal
-        ensures { IsRefusalOf names.now (record { entries = self.now.state.context }) place cause result.place result.cause result.text }
+        requires { HasNoHole self.now.state.context.entries }
+        ensures { IsRefusalOf names.now self.now.state.context.entries place cause result.place result.cause result.text }
     {
         Refusal::of(self.alloc, names, &self.state.context, place, cause)
     }

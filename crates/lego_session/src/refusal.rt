@@ -1,14 +1,18 @@
 //! Refusals of commands.
-
 ghost use Rattle.std.specs.Prelude.{◌≡◌, []};
-ghost use Rattle.lego_session.specs.Refusals.{Heading, heading};
-ghost use Rattle.lego_session.specs.private.Refusals.{IsRefusalOf};
+ghost use Rattle.lego_context.specs.Entries.{HasNoHole};
+ghost use Rattle.lego_session.specs.Causes.{IsTold, read_place, read_cause, cause_of};
+ghost use Rattle.lego_session.specs.private.Refusals.{IsRefusalOf, reduce_cause};
 
 use crate::refusal_text::refusal_text;
 use lego_base::{Names, Place};
-use lego_kernel::{Context, Counted};
+use lego_context::Context;
+use lego_inference::{Counted, TypeFault};
+use lego_level::Constraint;
 use lego_lexer::LexFault;
-use lego_term::{List, Seen};
+use lego_reading::ReadFault;
+use lego_reduce::ReduceFault;
+use lego_term::{List, Seen, Term};
 use lego_undo::UndoFault;
 use std::alloc::Global;
 
@@ -34,55 +38,36 @@ pub enum Cause {
     LongCommand { bytes: u64 },
     /// More than 1,048,576 names.
     NamesFull,
-    /// A name that no entry has.
+    /// A name that neither a local variable nor an entry has.
     UnknownName { name: u32 },
+    /// `?number`, where there is no such goal.
+    UnknownGoal { number: u32 },
     /// A name that an entry has, or that stands earlier in the same list.
     NameInUse { name: u32 },
     /// `term` stands where a type is wanted, and its rule type `got` is no sort.
     NotAType { term: Seen, got: Seen },
+    /// `term` stands where a function is wanted; `got` is its rule type.
+    NotAFunction { term: Seen, got: Seen },
+    /// `term` stands where a pair is wanted; `got` is its rule type.
+    NotAPair { term: Seen, got: Seen },
+    /// `term` stands where the type `want` is stated; `have` is its rule type.
+    Mismatch { term: Seen, have: Seen, want: Seen },
+    /// The constraints between universe levels have this cycle.
+    Universe { cycle: List<Constraint> },
+    /// One comparison, of two terms, or one reduction takes more steps than the limit.
+    Budget { left: Seen, right: Option<Seen> },
     /// A term of this size and depth, one of which is over its limit.
     TooLarge { size: u64, depth: u32 },
+    /// The constraint forces a least level over 1,000,000.
+    LevelTooBig { constraint: Constraint, needed: u64 },
     /// `held` are held, which is the limit.
     Full { of: Counted, held: u32 },
+    /// The written type of a pair, with the core `got`, is no Sigma type.
+    NotSigma { got: Seen },
     /// More steps are to be undone than are held.
     TooFar { asked: u64, held: u64 },
     /// Memory ran out.
     Memory,
-}
-
-/// The number and the name of a cause.
-#[derive(Clone, Copy)]
-pub(crate) struct Heading {
-    pub number: u8,
-    pub name: &'static [u8],
-}
-
-impl Cause {
-    /// The number and the name; want of memory has none.
-    pub(crate) fn heading(&self) -> Heading
-        ensures number { result.number ≡ (heading self.now).number }
-        ensures name { result.name.now ≡ (heading self.now).name }
-    {
-        let (number, name): (u8, &'static [u8]) = match self {
-            Cause::BadByte { .. } => (1, b"BadByte"),
-            Cause::OpenComment => (2, b"OpenComment"),
-            Cause::LongName => (3, b"LongName"),
-            Cause::BigLevel => (4, b"BigLevel"),
-            Cause::Unexpected { .. } => (5, b"Unexpected"),
-            Cause::TooDeep => (6, b"TooDeep"),
-            Cause::Unended => (7, b"Unended"),
-            Cause::LongCommand { .. } => (8, b"LongCommand"),
-            Cause::NamesFull => (9, b"NamesFull"),
-            Cause::UnknownName { .. } => (10, b"UnknownName"),
-            Cause::NameInUse { .. } => (12, b"NameInUse"),
-            Cause::NotAType { .. } => (13, b"NotAType"),
-            Cause::TooLarge { .. } => (19, b"TooLarge"),
-            Cause::Full { .. } => (21, b"Full"),
-            Cause::TooFar { .. } => (38, b"TooFar"),
-            Cause::Memory => (0, b""),
-        };
-        Heading { number, name }
-    }
 }
 
 impl From<LexFault> for Cause {
@@ -120,6 +105,81 @@ pub(crate) struct Reason {
     pub cause: Cause,
 }
 
+impl Reason {
+    /// Want of memory.
+    pub(crate) fn memory(place: Place) -> Reason
+        ensures place { result.place ≡ place }
+        ensures cause { result.cause ≡ Cause.Memory }
+    {
+        Reason {
+            place,
+            cause: Cause::Memory,
+        }
+    }
+
+    /// A written term of the command or binding at the place is not read.
+    pub(crate) fn unread(place: Place, fault: ReadFault) -> Reason
+        ensures place { result.place ≡ read_place fault place }
+        ensures cause { result.cause ≡ read_cause fault }
+    {
+        let (place, cause) = match fault {
+            ReadFault::UnknownName { place, name } => (place, Cause::UnknownName { name }),
+            ReadFault::UnknownGoal { place, number } => (place, Cause::UnknownGoal { number }),
+            ReadFault::NotSigma { got } => (place, Cause::NotSigma { got }),
+            ReadFault::TooLarge { size, depth } => (place, Cause::TooLarge { size, depth }),
+            ReadFault::Budget { left } => (place, Cause::Budget { left, right: None }),
+            ReadFault::Full { held } => {
+                let of = Counted::Levels;
+                (place, Cause::Full { of, held })
+            }
+            ReadFault::Memory => (place, Cause::Memory),
+        };
+        Reason { place, cause }
+    }
+
+    /// The context refuses a term or an entry. It was asked for a new name, and has no hole.
+    pub(crate) fn untyped(place: Place, fault: TypeFault) -> Reason
+        requires { IsTold fault }
+        ensures place { result.place ≡ place }
+        ensures cause { result.cause ≡ cause_of fault }
+    {
+        let cause = match fault {
+            TypeFault::NotAType { term, got } => Cause::NotAType { term, got },
+            TypeFault::NotAFunction { term, got } => Cause::NotAFunction { term, got },
+            TypeFault::NotAPair { term, got } => Cause::NotAPair { term, got },
+            TypeFault::Mismatch { term, have, want } => Cause::Mismatch { term, have, want },
+            TypeFault::Universe { cycle } => Cause::Universe { cycle },
+            TypeFault::Budget { left, right } => Cause::Budget { left, right },
+            TypeFault::TooLarge { size, depth } => Cause::TooLarge { size, depth },
+            TypeFault::LevelTooBig { constraint, needed } => {
+                Cause::LevelTooBig { constraint, needed }
+            }
+            TypeFault::Full { of, held } => Cause::Full { of, held },
+            TypeFault::Memory => Cause::Memory,
+            TypeFault::NameInUse { .. } => unreachable!(),
+            TypeFault::Circular { .. } => unreachable!(),
+        };
+        Reason { place, cause }
+    }
+
+    /// A form of the term is not reached.
+    pub(crate) fn unreduced(alloc: Global, place: Place, term: Term, fault: ReduceFault) -> Reason
+        ensures place { result.place ≡ place }
+        ensures cause { result.cause ≡ reduce_cause term fault }
+    {
+        let cause = match fault {
+            ReduceFault::Budget => {
+                let under = List::of(Vec::new(alloc));
+                let left = Seen { under, term };
+                Cause::Budget { left, right: None }
+            }
+            ReduceFault::TooLarge { size, depth } => Cause::TooLarge { size, depth },
+            ReduceFault::Memory => Cause::Memory,
+        };
+        Reason { place, cause }
+    }
+}
+
 /// A refused command: where, why, and the text of the answer, which is empty where memory
 /// ran out. The state is as before.
 #[derive(Drop)]
@@ -150,7 +210,8 @@ impl Refusal {
         place: Place,
         cause: Cause,
     ) -> Refusal
-        ensures { IsRefusalOf names.now (record { entries = context.now }) place cause result.place result.cause result.text }
+        requires { HasNoHole context.now.entries }
+        ensures { IsRefusalOf names.now context.now.entries place cause result.place result.cause result.text }
     {
         if let Cause::Memory = cause {
             return Refusal::memory(alloc, place);

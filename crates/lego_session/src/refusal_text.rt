@@ -1,155 +1,159 @@
 //! The text of a refusal.
-ghost use Rattle.std.specs.Prelude.{◌≡◌, ◌<◌, ◌++◌, codes, decimal, OnOk, IfOk};
-ghost use Rattle.lego_session.specs.Texts.{type_text};
-ghost use Rattle.lego_session.specs.Refusals.{place_text, hex_digit, byte_text, counted_text, details_text, cause_text, refusal_text};
+ghost use Rattle.std.specs.Prelude.{◌≡◌, ◌++◌, decimal, IfOk};
+ghost use Rattle.std.specs.Option.{option_copied};
+ghost use Rattle.lego_context.specs.Entries.{HasNoHole};
+ghost use Rattle.lego_print.specs.Refusals as print;
+ghost use Rattle.lego_session.specs.Refusals.{heading, cycle_of, hidden_text, sides_text, counted_text, details_text, refusal_text};
+ghost use Rattle.lego_session.specs.declared.refusal.Cause.TheVariants.{Mismatch};
+ghost use Rattle.lego_session.specs.private.Items.{front_scope};
 
+use crate::entries::Front;
 use crate::refusal::Cause;
-use crate::text::{name_text, push_number, push_type};
+use crate::text::name_text;
 use lego_base::{Names, Place};
-use lego_kernel::{Context, Counted};
-use lego_term::Term;
+use lego_context::Context;
+use lego_inference::Counted;
+use lego_level::Constraint;
+use lego_print::{
+    Details, Heading, Shown, details_text as print_details, refusal_lines, term_text, typing_text,
+};
+use lego_term::Seen;
 use std::alloc::{AllocError, Global};
 
-/// Adds a place: its line, a colon, its column.
-fn push_place(text: &mut Vec<u8>, place: Place) -> Result<(), AllocError>
-    ensures { OnOk result (text.new.items ≡ text.old.items ++ place_text place) }
-{
-    push_number(text, u64::from(place.line))?;
-    text.extend_from_slice(b":")?;
-    push_number(text, u64::from(place.column))
-}
-
-/// A hexadecimal digit, with capital letters.
-fn hex_digit(n: u8) -> u8
-    requires { n < 16 }
-    ensures { result ≡ hex_digit n }
-{
-    if n < 10 { b'0' + n } else { b'A' + (n - 10) }
-}
-
-/// Adds a byte as it is where it is printed, else `\x` and its two hexadecimal digits.
-fn push_byte(text: &mut Vec<u8>, byte: u8) -> Result<(), AllocError>
-    ensures { OnOk result (text.new.items ≡ text.old.items ++ byte_text byte) }
-{
-    if (0x21..=0x7E).contains(&byte) {
-        return text.extend_from_slice(&[byte]);
+impl Cause {
+    /// The heading; want of memory has none.
+    fn heading(&self) -> Option<Heading>
+        ensures { result ≡ heading self.now }
+    {
+        Some(match self {
+            Cause::BadByte { .. } => Heading::BadByte,
+            Cause::OpenComment => Heading::OpenComment,
+            Cause::LongName => Heading::LongName,
+            Cause::BigLevel => Heading::BigLevel,
+            Cause::Unexpected { .. } => Heading::Unexpected,
+            Cause::TooDeep => Heading::TooDeep,
+            Cause::Unended => Heading::Unended,
+            Cause::LongCommand { .. } => Heading::LongCommand,
+            Cause::NamesFull => Heading::NamesFull,
+            Cause::UnknownName { .. } => Heading::UnknownName,
+            Cause::UnknownGoal { .. } => Heading::UnknownGoal,
+            Cause::NameInUse { .. } => Heading::NameInUse,
+            Cause::NotAType { .. } => Heading::NotAType,
+            Cause::NotAFunction { .. } => Heading::NotAFunction,
+            Cause::NotAPair { .. } => Heading::NotAPair,
+            Cause::Mismatch { .. } => Heading::Mismatch,
+            Cause::Universe { .. } => Heading::Universe,
+            Cause::Budget { .. } => Heading::Budget,
+            Cause::TooLarge { .. } => Heading::TooLarge,
+            Cause::LevelTooBig { .. } => Heading::LevelTooBig,
+            Cause::Full { .. } => Heading::Full,
+            Cause::NotSigma { .. } => Heading::NotSigma,
+            Cause::TooFar { .. } => Heading::TooFar,
+            Cause::Memory => return None,
+        })
     }
-    text.extend_from_slice(b"\\x")?;
-    text.extend_from_slice(&[hex_digit(byte / 16), hex_digit(byte % 16)])
+
+    /// The constraints whose lines follow the first line.
+    fn cycle(&self) -> &[Constraint]
+        ensures { result.now ≡ cycle_of self.now }
+    {
+        match self {
+            Cause::Universe { cycle } => cycle.items(),
+            _ => &[],
+        }
+    }
 }
 
-/// Adds what is counted.
-fn push_counted(text: &mut Vec<u8>, of: Counted) -> Result<(), AllocError>
-    ensures { OnOk result (text.new.items ≡ text.old.items ++ counted_text of) }
+/// A term under the binders around it, with hidden levels.
+fn hidden(alloc: Global, names: &Names, front: &Front, seen: &Seen) -> Result<Vec<u8>, AllocError>
+    ensures { IfOk result (λ text. text.items ≡ hidden_text (front_scope names.now front.now) seen.now) }
+{
+    term_text(alloc, names, front, seen, Shown::Hidden)
+}
+
+/// A term with the type that it has and the one that is wanted.
+fn mismatch(
+    alloc: Global,
+    names: &Names,
+    front: &Front,
+    term: &Seen,
+    have: &Seen,
+    want: &Seen,
+) -> Result<Vec<u8>, AllocError>
+    ensures { IfOk result (λ text. text.items ≡ details_text (front_scope names.now front.now) (Mismatch term.now have.now want.now)) }
+{
+    let term = hidden(alloc, names, front, term)?;
+    let have = hidden(alloc, names, front, have)?;
+    let want = hidden(alloc, names, front, want)?;
+    let details = Details::Wanted(term.as_slice(), have.as_slice(), want.as_slice());
+    print_details(alloc, details)
+}
+
+/// The left side, and a right side behind a comma, where there is one.
+fn sides(
+    alloc: Global,
+    names: &Names,
+    front: &Front,
+    left: &Seen,
+    right: Option<&Seen>,
+) -> Result<Vec<u8>, AllocError>
+    ensures { IfOk result (λ text. text.items ≡ sides_text (front_scope names.now front.now) left.now (option_copied right.entry)) }
+{
+    let left = hidden(alloc, names, front, left)?;
+    let Some(right) = right else {
+        return Ok(left);
+    };
+    let right = hidden(alloc, names, front, right)?;
+    print_details(alloc, Details::Sides(left.as_slice(), right.as_slice()))
+}
+
+/// What is counted, and how many are held.
+fn full(of: Counted, held: u32) -> Details<'static>
+    ensures { print.details_text result ≡ counted_text of ++ decimal held }
 {
     match of {
-        Counted::Entries => text.extend_from_slice(b"entries "),
-        Counted::Levels => text.extend_from_slice(b"levels "),
+        Counted::Entries => Details::Entries(held),
+        Counted::Levels => Details::Levels(held),
     }
 }
 
-/// Adds a blank and a piece.
-fn push_detail(text: &mut Vec<u8>, piece: &[u8]) -> Result<(), AllocError>
-    ensures { OnOk result (text.new.items ≡ text.old.items ++ (codes " " ++ piece.now)) }
-{
-    text.extend_from_slice(b" ")?;
-    text.extend_from_slice(piece)
-}
-
-/// Adds a blank and a number.
-fn push_count(text: &mut Vec<u8>, number: u64) -> Result<(), AllocError>
-    ensures { OnOk result (text.new.items ≡ text.old.items ++ (codes " " ++ decimal number)) }
-{
-    text.extend_from_slice(b" ")?;
-    push_number(text, number)
-}
-
-/// Adds a blank and a byte.
-fn push_byte_detail(text: &mut Vec<u8>, byte: u8) -> Result<(), AllocError>
-    ensures { OnOk result (text.new.items ≡ text.old.items ++ (codes " " ++ byte_text byte)) }
-{
-    text.extend_from_slice(b" ")?;
-    push_byte(text, byte)
-}
-
-/// Adds a blank and two numbers with a comma between them.
-fn push_two_counts(text: &mut Vec<u8>, first: u64, second: u64) -> Result<(), AllocError>
-    ensures { OnOk result (text.new.items ≡ text.old.items ++ (codes " " ++ decimal first ++ codes ", " ++ decimal second)) }
-{
-    text.extend_from_slice(b" ")?;
-    push_number(text, first)?;
-    text.extend_from_slice(b", ")?;
-    push_number(text, second)
-}
-
-/// Adds a blank, what is counted, and a number.
-fn push_held(text: &mut Vec<u8>, of: Counted, held: u64) -> Result<(), AllocError>
-    ensures { OnOk result (text.new.items ≡ text.old.items ++ (codes " " ++ counted_text of ++ decimal held)) }
-{
-    text.extend_from_slice(b" ")?;
-    push_counted(text, of)?;
-    push_number(text, held)
-}
-
-/// Adds a blank, a term and its rule type.
-fn push_typing(
-    text: &mut Vec<u8>,
+/// The details of a cause.
+fn details(
+    alloc: Global,
     names: &Names,
-    context: &Context,
-    term: &Term,
-    got: &Term,
-) -> Result<(), AllocError>
-    ensures { OnOk result (text.new.items ≡ text.old.items ++ (codes " " ++ type_text names.now context.now 0 term.now ++ codes " : " ++ type_text names.now context.now 0 got.now)) }
-{
-    text.extend_from_slice(b" ")?;
-    push_type(text, names, context, 0, term)?;
-    text.extend_from_slice(b" : ")?;
-    push_type(text, names, context, 0, got)
-}
-
-/// Adds the details of a cause, behind a blank where there are any.
-fn push_details(
-    text: &mut Vec<u8>,
-    names: &Names,
-    context: &Context,
+    front: &Front,
     cause: &Cause,
-) -> Result<(), AllocError>
-    ensures { OnOk result (text.new.items ≡ text.old.items ++ details_text names.now (record { entries = context.now }) cause.now) }
+) -> Result<Vec<u8>, AllocError>
+    ensures { IfOk result (λ text. text.items ≡ details_text (front_scope names.now front.now) cause.now) }
 {
-    match cause {
-        Cause::BadByte { byte } => push_byte_detail(text, *byte),
-        Cause::Unexpected { token } => push_detail(text, token.items()),
-        Cause::LongCommand { bytes } => push_count(text, *bytes),
-        Cause::UnknownName { name } => push_detail(text, name_text(names, *name)),
-        Cause::NameInUse { name } => push_detail(text, name_text(names, *name)),
-        Cause::NotAType { term, got } => push_typing(text, names, context, &term.term, &got.term),
-        Cause::TooLarge { size, depth } => push_two_counts(text, *size, u64::from(*depth)),
-        Cause::Full { of, held } => push_held(text, *of, u64::from(*held)),
-        Cause::TooFar { asked, held } => push_two_counts(text, *asked, *held),
-        Cause::OpenComment => Ok(()),
-        Cause::LongName => Ok(()),
-        Cause::BigLevel => Ok(()),
-        Cause::TooDeep => Ok(()),
-        Cause::Unended => Ok(()),
-        Cause::NamesFull => Ok(()),
-        Cause::Memory => Ok(()),
-    }
+    let details = match cause {
+        Cause::BadByte { byte } => Details::Byte(*byte),
+        Cause::Unexpected { token } => Details::Text(token.items()),
+        Cause::LongCommand { bytes } => Details::Count(*bytes),
+        Cause::UnknownName { name } => Details::Text(name_text(names, *name)),
+        Cause::UnknownGoal { number } => Details::Goal(*number),
+        Cause::NameInUse { name } => Details::Text(name_text(names, *name)),
+        Cause::TooLarge { size, depth } => Details::Counts(*size, u64::from(*depth)),
+        Cause::LevelTooBig { needed, .. } => Details::Count(*needed),
+        Cause::Full { of, held } => full(*of, *held),
+        Cause::TooFar { asked, held } => Details::Counts(*asked, *held),
+        Cause::NotAType { term, got }
+        | Cause::NotAFunction { term, got }
+        | Cause::NotAPair { term, got } => {
+            return typing_text(alloc, names, front, term, got, Shown::Hidden);
+        }
+        Cause::Mismatch { term, have, want } => {
+            return mismatch(alloc, names, front, term, have, want);
+        }
+        Cause::Budget { left, right } => return sides(alloc, names, front, left, right.as_ref()),
+        Cause::NotSigma { got } => return hidden(alloc, names, front, got),
+        _ => Details::Nothing,
+    };
+    print_details(alloc, details)
 }
 
-/// Adds the name of a cause and its details.
-fn push_cause(
-    text: &mut Vec<u8>,
-    names: &Names,
-    context: &Context,
-    cause: &Cause,
-) -> Result<(), AllocError>
-    ensures { OnOk result (text.new.items ≡ text.old.items ++ cause_text names.now (record { entries = context.now }) cause.now) }
-{
-    text.extend_from_slice(cause.heading().name)?;
-    push_details(text, names, context, cause)
-}
-
-/// The line of a refusal, with the names of the context's entries.
+/// The text of a refusal, with the names of the context's entries in scope. Want of memory has no
+/// text.
 pub(crate) fn refusal_text(
     alloc: Global,
     names: &Names,
@@ -157,14 +161,12 @@ pub(crate) fn refusal_text(
     place: Place,
     cause: &Cause,
 ) -> Result<Vec<u8>, AllocError>
-    ensures { IfOk result (λ text. text.items ≡ refusal_text names.now (record { entries = context.now }) place cause.now) }
+    requires { HasNoHole context.now.entries }
+    ensures { IfOk result (λ text. text.items ≡ refusal_text names.now context.now.entries place cause.now) }
 {
-    let mut text = Vec::from_slice(alloc, b"refused ")?;
-    push_place(&mut text, place)?;
-    text.extend_from_slice(b" ")?;
-    push_number(&mut text, u64::from(cause.heading().number))?;
-    text.extend_from_slice(b" ")?;
-    push_cause(&mut text, names, context, cause)?;
-    text.extend_from_slice(b"\n")?;
-    Ok(text)
+    let Some(heading) = cause.heading() else {
+        return Ok(Vec::new(alloc));
+    };
+    let details = details(alloc, names, &Front::whole(context), cause)?;
+    refusal_lines(alloc, place, heading, details.as_slice(), cause.cycle())
 }

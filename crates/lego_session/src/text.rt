@@ -1,13 +1,17 @@
-//! The texts of types, entries and the development. Each call adds to a text.
-ghost use Rattle.std.specs.Prelude.{◌≡◌, ◌++◌, if◌then◌else◌, codes, decimal, [], take, drop, OnOk, IfOk};
-ghost use Rattle.std.specs.List.{flat_map};
-ghost use Rattle.lego_session.specs.Names.{name_text};
-ghost use Rattle.lego_session.specs.Texts.{entry_name, constant_text, type_text, entry_text, entry_lines, entry_command, development_text};
+//! The texts of entries and terms.
+ghost use Rattle.std.specs.Prelude.{◌≡◌, ◌≤◌, ◌++◌, [], true, decimal, drop, length, is_some, All, OnOk, IfOk};
+ghost use Rattle.lego_context.specs.Entries.{HasNoHole};
+ghost use Rattle.lego_print.specs.Names.{name_text};
+ghost use Rattle.lego_session.specs.Texts.{AreEntryLines, IsTermLine, IsTypingLine};
+ghost use Rattle.lego_session.specs.private.Items.{IsItemOf, AreItemsOf};
 
+use crate::entries::Front;
 use itoa::Buffer;
 use lego_base::Names;
-use lego_kernel::{Context, Entry};
-use lego_term::{Node, Term};
+use lego_context::Context;
+use lego_inference::Entry;
+use lego_print::{Item, Shown};
+use lego_term::{List, Seen, Term};
 use std::alloc::{AllocError, Global};
 
 /// The text of a name, or nothing where the number is not held.
@@ -21,16 +25,6 @@ pub(crate) fn name_text(names: &Names, name: u32) -> &[u8]
     }
 }
 
-/// The name of an entry.
-fn entry_name<'a>(names: &'a Names, entry: &Entry) -> &'a [u8]
-    ensures { result.now ≡ entry_name names.now entry.now }
-{
-    match entry.name {
-        Some(name) => name_text(names, name),
-        None => b"",
-    }
-}
-
 /// Adds the decimal digits of a number.
 pub(crate) fn push_number(text: &mut Vec<u8>, number: u64) -> Result<(), AllocError>
     ensures { OnOk result (text.new.items ≡ text.old.items ++ decimal number) }
@@ -39,129 +33,116 @@ pub(crate) fn push_number(text: &mut Vec<u8>, number: u64) -> Result<(), AllocEr
     text.extend_from_slice(digits.format(number).as_bytes())
 }
 
-/// Adds the bytes where the condition holds.
-fn push_if(text: &mut Vec<u8>, condition: bool, bytes: &[u8]) -> Result<(), AllocError>
-    ensures { OnOk result (text.new.items ≡ text.old.items ++ (if condition then bytes.now else [])) }
-{
-    if condition {
-        text.extend_from_slice(bytes)
-    } else {
-        Ok(())
-    }
-}
-
-/// Adds the name of the entry that has the number.
-fn push_constant(
-    text: &mut Vec<u8>,
-    names: &Names,
+/// The entries from a place on, as they are printed.
+pub(crate) fn items_from(
+    alloc: Global,
     context: &Context,
-    number: u32,
-) -> Result<(), AllocError>
-    ensures { OnOk result (text.new.items ≡ text.old.items ++ constant_text names.now context.now number) }
+    from: usize,
+) -> Result<Vec<Item<'_>>, AllocError>
+    requires within { from ≤ length context.now.entries }
+    requires no_hole { HasNoHole context.now.entries }
+    ensures { IfOk result (λ items. AreItemsOf items.items (drop from context.now.entries)) }
 {
     let _entries = context.len();
-    match context.entry(number as usize) {
-        Some(entry) => text.extend_from_slice(entry_name(names, entry)),
-        None => Ok(()),
+    items_of(alloc, &context.entries()[from..])
+}
+
+/// Entries that have names, as they are printed.
+fn items_of(alloc: Global, entries: &[Entry]) -> Result<Vec<Item<'_>>, AllocError>
+    requires { All (λ e. is_some e.name ≡ true) entries.now }
+    ensures { IfOk result (λ items. AreItemsOf items.items entries.now) }
+{
+    let mut items = Vec::new(alloc);
+    for entry in entries {
+        items.push(item_of(entry))?;
+    }
+    Ok(items)
+}
+
+/// An entry that has a name, as it is printed.
+fn item_of(entry: &Entry) -> Item<'_>
+    requires { is_some entry.now.name ≡ true }
+    ensures { IsItemOf result entry.now }
+{
+    let Some(name) = entry.name else {
+        unreachable!()
+    };
+    Item {
+        number: entry.number,
+        name,
+        mark: entry.mark,
+        ty: &entry.ty,
+        body: entry.body.as_ref(),
     }
 }
 
-/// Adds a type, in parentheses where it is an arrow and `wanted` is above 0.
-pub(crate) fn push_type(
-    text: &mut Vec<u8>,
-    names: &Names,
-    context: &Context,
-    wanted: u32,
-    ty: &Term,
-) -> Result<(), AllocError>
-    ensures { OnOk result (text.new.items ≡ text.old.items ++ type_text names.now context.now wanted ty.now) }
-{
-    match ty.view() {
-        Node::Prop => text.extend_from_slice(b"Prop"),
-        Node::Const(number) => push_constant(text, names, context, number),
-        Node::Pi(_, domain, body) => {
-            push_if(text, wanted > 0, b"(")?;
-            push_type(text, names, context, 1, domain)?;
-            text.extend_from_slice(b"->")?;
-            push_type(text, names, context, 0, body)?;
-            push_if(text, wanted > 0, b")")
-        }
-        Node::Var(_) => Ok(()),
-        Node::Univ(_) => Ok(()),
-        Node::Lam(..) => Ok(()),
-        Node::App(..) => Ok(()),
-        Node::Sigma(..) => Ok(()),
-        Node::Pair(..) => Ok(()),
-        Node::Fst(_) => Ok(()),
-        Node::Snd(_) => Ok(()),
-        Node::Local(..) => Ok(()),
-    }
-}
-
-/// Adds `x : T` and a line end.
-fn push_entry_line(
-    text: &mut Vec<u8>,
-    names: &Names,
-    context: &Context,
-    entry: &Entry,
-) -> Result<(), AllocError>
-    ensures { OnOk result (text.new.items ≡ text.old.items ++ (entry_text names.now context.now entry.now ++ codes "\n")) }
-{
-    text.extend_from_slice(entry_name(names, entry))?;
-    text.extend_from_slice(b" : ")?;
-    push_type(text, names, context, 0, &entry.ty)?;
-    text.extend_from_slice(b"\n")
-}
-
-/// The entry lines of the entries from a place on.
+/// The line of each entry from a place on, at these values of the level variables.
 pub(crate) fn entry_lines(
     alloc: Global,
     names: &Names,
     context: &Context,
+    values: &[u64],
     from: usize,
 ) -> Result<Vec<u8>, AllocError>
-    ensures { IfOk result (λ text. text.items ≡ entry_lines names.now context.now (drop from context.now)) }
+    requires within { from ≤ length context.now.entries }
+    requires no_hole { HasNoHole context.now.entries }
+    ensures { IfOk result (λ text. AreEntryLines names.now values.now context.now.entries from text.items) }
 {
-    let mut text = Vec::new(alloc);
-    for at in from..context.len() {
-        let Some(entry) = context.entry(at) else {
-            unreachable!()
-        };
-        push_entry_line(&mut text, names, context, entry)?;
-    }
-    Ok(text)
+    let items = items_from(alloc, context, from)?;
+    lego_print::entry_lines(
+        alloc,
+        names,
+        &Front::of(context, from),
+        &items,
+        Shown::Least(values),
+    )
 }
 
-/// Adds `[x:T];` and a line end.
-pub(crate) fn push_command(
-    text: &mut Vec<u8>,
-    names: &Names,
-    context: &Context,
-    entry: &Entry,
-) -> Result<(), AllocError>
-    ensures { OnOk result (text.new.items ≡ text.old.items ++ entry_command names.now context.now entry.now) }
+/// A term under no binder.
+fn alone(alloc: Global, m: &Term) -> Result<Seen, AllocError>
+    ensures { IfOk result (λ seen. (seen.under ≡ []) × (seen.term ≡ m.now)) }
 {
-    text.extend_from_slice(b"[")?;
-    text.extend_from_slice(entry_name(names, entry))?;
-    text.extend_from_slice(b":")?;
-    push_type(text, names, context, 0, &entry.ty)?;
-    text.extend_from_slice(b"];\n")
+    Ok(Seen {
+        under: List::of(Vec::new(alloc)),
+        term: m.share()?,
+    })
 }
 
-/// The development: `Explicit;` and a command for each entry.
-pub(crate) fn development(
+/// The line of a term, with all entries in scope, at these values of the level variables.
+pub(crate) fn term_line(
     alloc: Global,
     names: &Names,
     context: &Context,
+    values: &[u64],
+    m: &Term,
 ) -> Result<Vec<u8>, AllocError>
-    ensures { IfOk result (λ text. text.items ≡ development_text names.now context.now) }
+    requires { HasNoHole context.now.entries }
+    ensures { IfOk result (λ text. IsTermLine names.now values.now context.now.entries m.now text.items) }
 {
-    let mut text = Vec::from_slice(alloc, b"Explicit;\n")?;
-    for at in 0..context.len() {
-        let Some(entry) = context.entry(at) else {
-            unreachable!()
-        };
-        push_command(&mut text, names, context, entry)?;
-    }
+    let seen = alone(alloc, m)?;
+    let front = Front::whole(context);
+    let mut text = lego_print::term_text(alloc, names, &front, &seen, Shown::Least(values))?;
+    text.extend_from_slice(b"\n")?;
+    Ok(text)
+}
+
+/// The line of a term and its type, `M : T`, with all entries in scope, at these values of the
+/// level variables.
+pub(crate) fn typing_line(
+    alloc: Global,
+    names: &Names,
+    context: &Context,
+    values: &[u64],
+    m: &Term,
+    ty: &Term,
+) -> Result<Vec<u8>, AllocError>
+    requires { HasNoHole context.now.entries }
+    ensures { IfOk result (λ text. IsTypingLine names.now values.now context.now.entries m.now ty.now text.items) }
+{
+    let (m, ty) = (alone(alloc, m)?, alone(alloc, ty)?);
+    let front = Front::whole(context);
+    let levels = Shown::Least(values);
+    let mut text = lego_print::typing_text(alloc, names, &front, &m, &ty, levels)?;
+    text.extend_from_slice(b"\n")?;
     Ok(text)
 }

@@ -2,12 +2,12 @@
 #![tactic(auto)]
 
 #[cfg(test)]
+mod definitions;
+#[cfg(test)]
 mod devices;
 #[cfg(test)]
 mod run;
 #[cfg(test)]
 mod stop;
-#[cfg(test)]
-mod undo;
 #[cfg(test)]
 mod words;

@@ -174,7 +174,7 @@ fn refused(alloc: Global, line: &[u8]) -> Result<Vec<u8>, AllocError> {
 
 #[test]
 fn each_refusal_has_its_cause_and_its_place(rt: HostRuntime) -> Result<(), Fail> {
-    let cases: [(&[u8], &[u8]); 36] = [
+    let cases: [(&[u8], &[u8]); 37] = [
         // Bytes that begin no token, and numerals.
         (b"[A-Prop];", b"refused 1:3 1 BadByte -"),
         (b"[\x0BA:Prop];", b"refused 1:2 1 BadByte \\x0B"),
@@ -191,15 +191,15 @@ fn each_refusal_has_its_cause_and_its_place(rt: HostRuntime) -> Result<(), Fail>
         (b"[A:Prop->];", b"refused 1:10 5 Unexpected ]"),
         (b"Module M;", b"refused 1:1 5 Unexpected Module"),
         // Forms that are not built, at their first token.
-        (b"[x=Prop];", b"refused 1:1 5 Unexpected ["),
-        (b"[A:Prop][B=A];", b"refused 1:1 5 Unexpected ["),
         (b"[A|Prop];", b"refused 1:1 5 Unexpected ["),
-        (b"[A:Type];", b"refused 1:1 5 Unexpected ["),
-        (b"[A:Prop][x:A A];", b"refused 1:1 5 Unexpected ["),
-        (b"[A:{x:Prop}x];", b"refused 1:1 5 Unexpected ["),
-        (b"(*x*)Prop;", b"refused 1:6 5 Unexpected Prop"),
+        (b"[A:Prop][B|A];", b"refused 1:1 5 Unexpected ["),
+        (b"[f:{x|Prop}x];", b"refused 1:1 5 Unexpected ["),
+        (b"[f=[x|Prop]x];", b"refused 1:1 5 Unexpected ["),
+        (b"(*x*)Hnf f|Prop;", b"refused 1:6 5 Unexpected Hnf"),
         (b"Goal Prop;", b"refused 1:1 5 Unexpected Goal"),
         (b"Explicit;", b"refused 1:1 5 Unexpected Explicit"),
+        (b"Implicit;", b"refused 1:1 5 Unexpected Implicit"),
+        (b"Discharge A;", b"refused 1:1 5 Unexpected Discharge"),
         // Names that no entry has: a type can't name what its own binding assumes.
         (b"[A:A];", b"refused 1:4 10 UnknownName A"),
         (b"[A,B:A];", b"refused 1:6 10 UnknownName A"),
@@ -222,7 +222,8 @@ fn each_refusal_has_its_cause_and_its_place(rt: HostRuntime) -> Result<(), Fail>
         (b"[A)@Prop];", b"refused 1:4 1 BadByte @"),
         (b"[A:Q)];", b"refused 1:5 5 Unexpected )"),
         (b"[x=Prop)];", b"refused 1:8 5 Unexpected )"),
-        (b"[A:Q][x=A];", b"refused 1:1 5 Unexpected ["),
+        (b"[A:Q][x|A];", b"refused 1:1 5 Unexpected ["),
+        (b"[A:Q][x=A];", b"refused 1:4 10 UnknownName Q"),
         (b"[A:Prop][A:Q];", b"refused 1:10 12 NameInUse A"),
         (b"[A:Q][A:Prop];", b"refused 1:4 10 UnknownName Q"),
     ];

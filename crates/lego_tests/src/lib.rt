@@ -4,10 +4,10 @@
 #[cfg(test)]
 mod compare;
 #[cfg(test)]
-mod kernel;
-#[cfg(test)]
 mod level;
 #[cfg(test)]
 mod reduce;
 #[cfg(test)]
 mod term;
+#[cfg(test)]
+mod undo;

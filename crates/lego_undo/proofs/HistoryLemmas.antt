@@ -1,21 +1,24 @@
 -- Histories with one change more, and with the last ones gone.
 use Rattle.std.proofs.Common.{◌≡◌, ℕ, suc, ◌+◌, ◌-◌, ◌≤◌, ◌<◌, List, [], ◌∷◌, ◌++◌, length, take, slice_get, Some, refl, sym, ap, ◌∙◌, subst, arith, append_assoc, append-nil}
 use Rattle.std.proofs.lemmas.List.{length-append, length-take-le}
-use Rattle.lego_undo.proofs.ExtendsLemmas.{no_longer}
+use Rattle.lego_undo.proofs.FrontLemmas.{no_longer, extent_of_front, front_of_extent}
 use Rattle.std.proofs.Math.Seq.{take-append_seam}
 use Rattle.std.specs.Prelude.{Result, Ok, Err, OnOk}
-use Rattle.lego_undo.specs.Histories.{Held, held, before, front, origin, old_states, Fits, GoesWith}
+use Rattle.lego_context.specs.Contexts.{IsContext}
+use Rattle.lego_context.specs.Forgetting.{front_of}
+use Rattle.lego_undo.specs.Histories.{HasExtent, extent_of, before, front, origin, old_states, Fits, GoesWith}
 use Rattle.lego_undo.specs.Changes.{IsFrontOf, IsChange, cut, whole, Notes, Undoes}
 use Rattle.lego_undo.specs.private.Last.{UndoesLast, Undone}
 use Rattle.lego_undo.specs.declared.state.State.{State}
 use Rattle.lego_undo.specs.declared.change.Change.{Change}
+use Rattle.lego_undo.specs.declared.change.Extent.{Extent}
 use Rattle.lego_undo.specs.declared.change.Change.TheVariants.{Cut, Whole}
 
 origin-push : (cs : List Change) (c : Change) (s : State) → origin (cs ++ c ∷ []) s ≡ origin cs (before c s)
 origin-push [] c s = refl
 origin-push (x ∷ cs) c s = ap (before x) (origin-push cs c s)
 
-pub states-push : (cs : List Change) (c : Change) (s : State) → old_states (cs ++ c ∷ []) s ≡ old_states cs (before c s) ++ held (before c s) ∷ []
+pub states-push : (cs : List Change) (c : Change) (s : State) → old_states (cs ++ c ∷ []) s ≡ old_states cs (before c s) ++ before c s ∷ []
 states-push [] c s = refl
 states-push (x ∷ cs) c s = rw (origin-push cs c s, states-push cs c s) refl
 
@@ -35,7 +38,7 @@ noted cs old new c e which back f g = record {
   change = c;
   last = e;
   which = which;
-  states = rw e (subst (λ o. old_states (cs ++ c ∷ []) new ≡ old_states cs o ++ held o ∷ []) back (states-push cs c new));
+  states = rw e (subst (λ o. old_states (cs ++ c ∷ []) new ≡ old_states cs o ++ o ∷ []) back (states-push cs c new));
   goes = rw e (goes-push cs c new f (subst (GoesWith cs) (sym back) g));
 }
 
@@ -63,7 +66,7 @@ undone-more {cs} {after} {fewer} {s} {new} {older} u l = record {
   goes = l.goes;
 }
 
-at_seam : (xs : List Held) (x : Held) (ys : List Held) → slice_get (xs ++ x ∷ ys) (length xs) ≡ Some x
+at_seam : {X : Type 0} (xs : List X) (x : X) (ys : List X) → slice_get (xs ++ x ∷ ys) (length xs) ≡ Some x
 at_seam [] x ys = refl
 at_seam (z ∷ xs) x ys = at_seam xs x ys
 
@@ -91,35 +94,35 @@ undoes {cs} {after} {s} {new} {n} u = record {
     no_change [] e = refl
     no_change (d ∷ ds) e = absurd (omega arith)
 
-    last_of : (ds : List Change) → 0 < length ds → new ≡ origin ds s → slice_get (old_states after new ++ old_states ds s) (length after) ≡ Some (held new)
+    last_of : (ds : List Change) → 0 < length ds → new ≡ origin ds s → slice_get (old_states after new ++ old_states ds s) (length after) ≡ Some new
     last_of [] l e = absurd (omega arith)
-    last_of (d ∷ ds) l e = rw (← e, ← length_states after new) (at_seam (old_states after new) (held new) (old_states ds s))
+    last_of (d ∷ ds) l e = rw (← e, ← length_states after new) (at_seam (old_states after new) new (old_states ds s))
 
 -- the kinds of steps
 
-pub growth : (cs : List Change) (entries : ℕ) (new : State) {after : List Change} → entries ≤ length new.context → GoesWith cs (front entries new)
-    → after ≡ cs ++ Cut entries ∷ [] → Notes cs (front entries new) new after
-growth cs entries new l g e = noted cs (front entries new) new (Cut entries) e is refl l g
+pub growth : (cs : List Change) (extent : Extent) (new : State) {after : List Change} → HasExtent extent new → GoesWith cs (front extent new)
+    → after ≡ cs ++ Cut extent ∷ [] → Notes cs (front extent new) new after
+growth cs extent new h g e = noted cs (front extent new) new (Cut extent) e is refl h g
   where
-    size : length (take entries new.context) ≡ entries
-    size = length-take-le entries new.context l
+    same : extent_of (front extent new) ≡ extent
+    same = extent_of_front extent new h
 
-    is : IsChange (front entries new) new (Cut entries)
-    is = subst (λ n. IsChange (front entries new) new (Cut n)) size (cut (ap (λ n. front n new) size))
+    is : IsChange (front extent new) new (Cut extent)
+    is = subst (λ n. IsChange (front extent new) new (Cut n)) same (cut (record { is = ap (λ n. front n new) same; levels = h.levels_within }))
 
-pub extended : (cs : List Change) (old new : State) {after : List Change} → IsFrontOf old new → GoesWith cs old
-    → after ≡ cs ++ Cut (length old.context) ∷ [] → Notes cs old new after
-extended cs old new x g e =
-    noted cs old new (Cut (length old.context)) e (cut x) x (no_longer old.context new.context (ap (λ (s : State). s.context) x)) g
+pub extended : (cs : List Change) (old new : State) {after : List Change} → IsContext old.context → IsFrontOf old new → GoesWith cs old
+    → after ≡ cs ++ Cut (extent_of old) ∷ [] → Notes cs old new after
+extended cs old new c x g e = noted cs old new (Cut (extent_of old)) e (cut x) x.is (front_of_extent old new c x) g
 
 pub replaced : (cs : List Change) (old new : State) {after : List Change} → (IsFrontOf old new → ⊥) → GoesWith cs old
     → after ≡ cs ++ Whole old ∷ [] → Notes cs old new after
 replaced cs old new x g e = noted cs old new (Whole old) e (whole x) refl tt g
 
-pub shorter : (old : State) (at : ℕ) → at < length old.context → IsFrontOf old (front at old) → ⊥
+pub shorter : (old : State) (at : ℕ) → at < length old.context.entries → IsFrontOf old (record { context = front_of old.context at }) → ⊥
 shorter old at l x =
-    let longer = no_longer old.context (take at old.context) (ap (λ (s : State). s.context) x) in
-    absurd (omega (arith, length-take-le at old.context (omega arith)))
+    let same : take (length old.context.entries) (take at old.context.entries) ≡ old.context.entries = ap (λ (s : State). s.context.entries) x.is in
+    let longer = no_longer old.context.entries (take at old.context.entries) same in
+    absurd (omega (arith, length-take-le at old.context.entries (omega arith)))
 
 pub last_undone : {cs after : List Change} (c : Change) {s new : State} → cs ≡ after ++ c ∷ [] → GoesWith cs s → new ≡ before c s → UndoesLast cs s after new
 last_undone {cs} {after} c {s} {new} e g is = record {

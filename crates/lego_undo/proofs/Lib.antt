@@ -1,2 +1,2 @@
-mod ExtendsLemmas
+pub mod FrontLemmas
 mod HistoryLemmas

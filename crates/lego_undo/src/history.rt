@@ -1,11 +1,12 @@
 //! The history of a session.
 ghost use Rattle.std.specs.Prelude.{◌≡◌, ◌≤◌, ◌<◌, ◌++◌, [], ◌∷◌, length, take, OnOk, OnErr, IfErr};
-ghost use Rattle.lego_undo.specs.Histories.{front, held, old_states, GoesWith};
+ghost use Rattle.lego_context.specs.Forgetting.{CanBeForgotten, front_of};
+ghost use Rattle.lego_undo.specs.Histories.{front, old_states, GoesWith, HasExtent};
 ghost use Rattle.lego_undo.specs.Changes.{Notes, Undoes, IsTooFar};
 ghost use Rattle.lego_undo.specs.private.Last.{UndoesLast};
 ghost use Rattle.lego_undo.specs.declared.change.Change.TheVariants.{Cut, Whole};
 
-use crate::change::Change;
+use crate::change::{Change, Extent};
 use crate::state::State;
 use crate::undo_fault::UndoFault;
 use std::alloc::{AllocError, Global};
@@ -56,9 +57,9 @@ impl History {
         self.changes.len() as u64
     }
 
-    /// Notes a step from `old` to `new`: as a cut where the old entries are the first of the new
-    /// ones, and else as a whole copy of the old state. Each old entry's type is compared node by
-    /// node.
+    /// Notes a step from `old` to `new`: as a cut where the old state is so much of the new one as
+    /// its extent says, and else as a whole copy of the old state. Each old entry is compared, its
+    /// terms node by node.
     ///
     /// # Errors
     ///
@@ -69,8 +70,8 @@ impl History {
         ensures err { OnErr result (self.new ≡ self.old) }
     {
         let change = if new.extends(old) {
-            let entries = old.context.len();
-            Change::Cut { entries }
+            let extent = old.extent();
+            Change::Cut { extent }
         } else {
             let state = old.copy()?;
             Change::Whole { state }
@@ -78,42 +79,44 @@ impl History {
         self.push(change)
     }
 
-    /// Notes a step that added entries behind the first `entries`, of which the old state
-    /// had no more. It is noted as a cut.
+    /// Notes a step that added entries, universes or level variables behind an extent, which was
+    /// the old state's. It is noted as a cut, and nothing is compared.
     ///
     /// # Errors
     ///
     /// Memory ran out; the history is then as before.
-    pub fn note_growth(&mut self, new: &State, entries: usize) -> Result<(), AllocError>
-        requires within { entries ≤ length new.now.context }
-        requires goes { GoesWith self.old (front entries new.now) }
-        ensures ok { OnOk result (Notes self.old (front entries new.now) new.now self.new) }
-        ensures cut { OnOk result (self.new ≡ self.old ++ Cut entries ∷ []) }
+    pub fn note_growth(&mut self, new: &State, extent: Extent) -> Result<(), AllocError>
+        requires within { HasExtent extent new.now }
+        requires goes { GoesWith self.old (front extent new.now) }
+        ensures ok { OnOk result (Notes self.old (front extent new.now) new.now self.new) }
+        ensures cut { OnOk result (self.new ≡ self.old ++ Cut extent ∷ []) }
         ensures err { OnErr result (self.new ≡ self.old) }
     {
-        let _entries = new.context.len();
-        self.push(Change::Cut { entries })
+        let _extent = new.extent();
+        self.push(Change::Cut { extent })
     }
 
-    /// Keeps the entries before a place in the state, and notes that as a step. The old state
-    /// moves into the history; the list of the entries that stay is copied.
+    /// Keeps the entries before a place in the state, with the universes that they use, and notes
+    /// that as a step. The old state moves into the history, and the new one is a copy that shares
+    /// its terms.
     ///
     /// # Errors
     ///
     /// Memory ran out; state and history are then as before.
     pub fn forget(&mut self, state: &mut State, at: usize) -> Result<(), AllocError>
-        requires within { at < length state.old.context }
+        requires within { at < length state.old.context.entries }
+        requires alone { CanBeForgotten state.old.context at }
         requires goes { GoesWith self.old state.old }
-        ensures state { OnOk result (state.new ≡ front at state.old) }
+        ensures state { OnOk result (state.new ≡ record { context = front_of state.old.context at }) }
         ensures ok { OnOk result (Notes self.old state.old state.new self.new) }
         ensures whole { OnOk result (self.new ≡ self.old ++ Whole state.old ∷ []) }
         ensures kept { OnErr result (state.new ≡ state.old) }
         ensures err { OnErr result (self.new ≡ self.old) }
     {
-        let context = state.context.front(at)?;
+        let kept = state.before(at)?;
         // Room first, so that a refusal leaves the state as it was.
         self.changes.reserve(1)?;
-        let old = mem::replace(state, State { context });
+        let old = mem::replace(state, kept);
         let Ok(()) = self.changes.push(Change::Whole { state: old }) else {
             unreachable!()
         };
@@ -153,7 +156,7 @@ impl History {
             unreachable!()
         };
         match change {
-            Change::Cut { entries } => state.context.forget(entries),
+            Change::Cut { extent } => state.cut_to(extent),
             Change::Whole { state: old } => *state = old,
         }
     }

@@ -3,10 +3,11 @@
 
 mod change;
 mod history;
+mod same;
 mod state;
 mod undo_fault;
 
-pub use change::Change;
+pub use change::{Change, Extent};
 pub use history::History;
 pub use state::State;
 pub use undo_fault::UndoFault;

@@ -1,67 +1,113 @@
--- What the parts of a binding's run answer.
-use Rattle.std.specs.Prelude.{◌≡◌, ℕ, ◌+◌, ◌<◌, ◌≤◌, List, take, length, slice_get, Option, Some, None, ◌⊎◌}
+-- What the parts of a binding's run ask and answer.
+use Rattle.std.specs.Prelude.{◌≡◌, ℕ, ◌<◌, ◌≤◌, List, [], ◌∷◌, ◌++◌, length, slice_get, Option, Some, None, IfSome, Result, Ok, Err, ◌⊎◌}
 use Rattle.std.specs.List.{AllByRecursion}
 use Rattle.lego_base.specs.declared.place.Place.{Place}
+use Rattle.lego_term.specs.Levels.{Assignment}
 use Rattle.lego_term.specs.Trees.{Core}
-use Rattle.lego_term.specs.declared.binder.Mark.TheVariants.{Plain}
-use Rattle.lego_grammar.specs.Written.{WrittenBinding}
-use Rattle.lego_kernel.specs.Assuming.{NoTypeIn}
-use Rattle.lego_kernel.specs.Entries.{laws_entries}
-use Rattle.lego_kernel.specs.Simple.{IsSimpleType}
-use Rattle.lego_kernel.specs.declared.entry.Entry.{Entry}
-use Rattle.lego_kernel.specs.declared.fault.Counted.TheVariants.{Entries}
-use Rattle.lego_kernel.specs.declared.fault.TypeFault.{TypeFault}
-use Rattle.lego_kernel.specs.declared.fault.TypeFault.TheVariants as Kernel
-use Rattle.lego_session.specs.commands.Bindings.{AreNew, FirstAreNew, IsNew, assume_all, IsBindingRefused, AreRefused}
-use Rattle.lego_session.specs.declared.reading.ReadFault.{ReadFault}
-use Rattle.lego_session.specs.declared.reading.ReadFault.TheVariants as Read
+use Rattle.lego_term.specs.declared.binder.Mark.{Mark}
+use Rattle.lego_grammar.specs.Grammar.{Names}
+use Rattle.lego_grammar.specs.Written.{Written, WrittenKind, Assumed, Defined, WrittenBinding}
+use Rattle.lego_inference.specs.Calls.{IsTermOver}
+use Rattle.lego_inference.specs.declared.entry.At.{At}
+use Rattle.lego_inference.specs.declared.entry.Entry.{Entry as Item}
+use Rattle.lego_inference.specs.declared.entry.Universe.{Universe}
+use Rattle.lego_inference.specs.declared.fault.TypeFault.{TypeFault}
+use Rattle.lego_context.specs.Causes.{AddFails}
+use Rattle.lego_context.specs.Changes.{type_task}
+use Rattle.lego_context.specs.Contexts.{Contents}
+use Rattle.lego_context.specs.Entries.{HasNoHole}
+use Rattle.lego_context.specs.Settling.{IsSettled}
+use Rattle.lego_reading.specs.Calls.{IsCoreOf, IsUnread}
+use Rattle.lego_reading.specs.Readable.{CanKindBeRead}
+use Rattle.lego_reading.specs.Universes.{with_types_of}
+use Rattle.lego_reading.specs.declared.fault.ReadFault.{ReadFault}
+use Rattle.lego_session.specs.Causes.{read_place, read_cause, cause_of}
+use Rattle.lego_session.specs.Texts.{AreEntryLines}
+use Rattle.lego_session.specs.commands.Bindings.{AreNew, FirstAreNew, IsNew, AssumesAll, ReadsDefinition, AreEntriesRefused, IsBindingRefused, AreRefused}
 use Rattle.lego_session.specs.declared.refusal.Cause.{Cause}
-use Rattle.lego_session.specs.declared.refusal.Cause.TheVariants.{UnknownName, NotAType, TooLarge, Full, Memory}
+use Rattle.lego_session.specs.declared.refusal.Cause.TheVariants.{Memory}
+use Rattle.lego_session.specs.declared.refusal.Reason.{Reason}
 
--- each binding has a name, and a place for each of its names
-abbrev pub HasPlaces : List WrittenBinding → Type 0
-HasPlaces bs = AllByRecursion (λ b. (length b.places ≡ length b.names) × (0 < length b.names)) bs
+-- entries that are no holes, universes and level variables were added, and none was taken away
+pub record Extends (old new : Contents) : Type 0 where
+  pub more : List Item
+  pub entries : new.entries ≡ old.entries ++ more
+  pub no_hole : HasNoHole more
+  pub written : List Universe
+  pub universes : new.universes ≡ old.universes ++ written
+  pub levels : old.levels ≤ new.levels
+
+-- a definition has one name
+abbrev pub HasItsNames : WrittenKind → ℕ → Type 0
+HasItsNames (Assumed mark t) count = 0 < count
+HasItsNames (Defined m t) count = count ≡ 1
+
+-- the binding has its names, with a place for each, and its written terms can be read
+pub record IsRight (b : WrittenBinding) : Type 0 where
+  pub places : length b.places ≡ length b.names
+  pub names : HasItsNames b.kind (length b.names)
+  pub read : CanKindBeRead b.kind
+
+abbrev pub AreRight : List WrittenBinding → Type 0
+AreRight bs = AllByRecursion IsRight bs
 
 -- the first name that is not new, if there is one
-abbrev pub IsFirstUsed : List Entry → List ℕ → Option ℕ → Type 0
+abbrev pub IsFirstUsed : List Item → List ℕ → Option ℕ → Type 0
 IsFirstUsed es ns None = AreNew es ns
 IsFirstUsed es ns (Some i) = (n : ℕ) × (slice_get ns i ≡ Some n) × FirstAreNew es ns i × (IsNew es ns i n → ⊥)
 
--- an assumption was made for each name
-pub record Assumes (es : List Entry) (ns : List ℕ) (ty : Core) (new : List Entry) : Type 0 where
-  pub makes : new ≡ assume_all es Plain ns ty
-  pub simple : IsSimpleType es ty
-  pub room : length es + length ns ≤ 65536
+-- the term is over the context
+abbrev pub IsOverContext : Contents → Core → Type 0
+IsOverContext c m = IsTermOver c.entries [] c.levels m
 
--- why not each name was assumed
-abbrev pub AssumeFails : List Entry → List ℕ → Core → TypeFault → Type 0
-AssumeFails es ns ty (Kernel.NotAType term got) = NoTypeIn (laws_entries es) ty term got
-AssumeFails es ns ty (Kernel.Full of held) = IsSimpleType es ty × (of ≡ Entries) × (held ≡ 65536) × (65536 < length es + length ns)
-AssumeFails es ns ty (Kernel.NameInUse at) = ⊥
-AssumeFails es ns ty Kernel.Memory = Unit {0}
+-- why a written term, whose command or binding stands at a place, isn't read
+pub record IsUnreadAt (c : Contents) (s : Written) (limit : ℕ) (place : Place) (reason : Reason) : Type 0 where
+  pub fault : ReadFault
+  pub unread : IsUnread c s limit fault
+  pub at : reason.place ≡ read_place fault place
+  pub is_cause : reason.cause ≡ read_cause fault
 
--- the old entries come first among the new ones
-abbrev pub IsFront : List Entry → List Entry → Type 0
-IsFront old new = take (length old) new ≡ old
+-- what the reading of a term at a place answers
+abbrev pub ReadsAt : Contents → Written → ℕ → Place → Contents → Result Core Reason → Type 0
+ReadsAt old s limit place new (Ok core) = IsCoreOf old s core × (new ≡ with_types_of old s)
+ReadsAt old s limit place new (Err reason) = IsUnreadAt old s limit place reason × (new ≡ old)
 
--- the cause for a kernel's refusal of names that are new
-abbrev pub IsCauseOf : TypeFault → Cause → Type 0
-IsCauseOf (Kernel.NotAType term got) cause = cause ≡ NotAType term got
-IsCauseOf (Kernel.Full of held) cause = cause ≡ Full of held
-IsCauseOf (Kernel.NameInUse at) cause = ⊥
-IsCauseOf Kernel.Memory cause = cause ≡ Memory
-
--- the refusal of a simple written type, whose binding stands at the first place
-abbrev pub IsReadRefusal : Place → ReadFault → Place → Cause → Type 0
-IsReadRefusal place Read.NotBuilt p cause = ⊥
-IsReadRefusal place (Read.Unknown at name) p cause = (p ≡ at) × (cause ≡ UnknownName name)
-IsReadRefusal place (Read.TooLarge i j) p cause = (p ≡ place) × (cause ≡ TooLarge i j)
-IsReadRefusal place Read.Memory p cause = (p ≡ place) × (cause ≡ Memory)
+-- entries are refused so; want of memory is free
+abbrev pub EntriesFail : (limit : ℕ) → Contents → Place → List ℕ → WrittenKind → Reason → Type 0
+EntriesFail limit c place names kind reason = (reason.cause ≡ Memory) ⊎ AreEntriesRefused limit c place names kind reason.place reason.cause
 
 -- a binding is refused so; want of memory is free
-abbrev pub BindFails : List Entry → WrittenBinding → Place → Cause → Type 0
-BindFails es b p cause = (cause ≡ Memory) ⊎ IsBindingRefused es b p cause
+abbrev pub BindFails : (limit : ℕ) → Contents → WrittenBinding → Reason → Type 0
+BindFails limit c b reason = (reason.cause ≡ Memory) ⊎ IsBindingRefused limit c b reason.place reason.cause
 
 -- the bindings before one are made, and that one is refused so; want of memory is free
-abbrev pub BindAllFails : List Entry → List WrittenBinding → List Entry → Place → Cause → Type 0
-BindAllFails es bs new p cause = ((cause ≡ Memory) ⊎ AreRefused es bs new p cause) × IsFront es new
+abbrev pub BindAllFails : (limit : ℕ) → Contents → List WrittenBinding → Contents → Reason → Type 0
+BindAllFails limit c bs new reason = (reason.cause ≡ Memory) ⊎ AreRefused limit c bs new.entries reason.place reason.cause
+
+-- the written terms of a definition can be read
+abbrev pub CanDefinitionBeRead : Written → Option Written → Type 0
+CanDefinitionBeRead m t = CanKindBeRead (Defined m t)
+
+-- why not each of the names was assumed: one of them isn't added to what those before it made
+pub record IsNotAssumed (mark : Mark) (ty : Core) (asked : At) (old : Contents) (names : List ℕ) (reason : Reason) : Type 0 where
+  pub before : List ℕ
+  pub name : ℕ
+  pub after : List ℕ
+  pub split : names ≡ before ++ name ∷ after
+  pub mid : Contents
+  pub assumed : AssumesAll mark ty asked.place old before mid
+  pub fault : TypeFault
+  pub fails : AddFails mid.entries name (type_task mid ty) asked fault
+  pub at : reason.place ≡ asked.place
+  pub is_cause : reason.cause ≡ cause_of fault
+
+-- what the reading of a definition answers, whatever its names
+abbrev pub ReadsWholeDefinition : Contents → Written → Option Written → At → Contents → Result (Core × Option Core) Reason → Type 0
+ReadsWholeDefinition old m t asked new (Ok cores) = ReadsDefinition old m t cores.0 cores.1 new × IsOverContext new cores.0 × IfSome cores.1 (IsOverContext new)
+ReadsWholeDefinition old m t asked new (Err reason) = (names : List ℕ) → EntriesFail asked.limit old asked.place names (Defined m t) reason
+
+-- the text has a line for each entry from a place on, at the least levels
+pub record ShowsAdded (names : Names) (c : Contents) (from : ℕ) (text : List ℕ) : Type 0 where
+  pub values : Assignment
+  pub settled : IsSettled c [] c.levels values
+  pub lines : AreEntryLines names values c.entries from text

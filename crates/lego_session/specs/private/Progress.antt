@@ -9,8 +9,8 @@ use Rattle.lego_grammar.specs.Grammar.{Names}
 use Rattle.lego_session.specs.Headline.{Headline}
 use Rattle.lego_session.specs.Names.{IsKnownSession}
 use Rattle.lego_session.specs.Texts.{first_place}
-use Rattle.lego_session.specs.Sessions.{Session, empty_session, entries_of}
-use Rattle.lego_session.specs.Runs.{Runs, answers_text, some_refused, closing_text, is_ending_refused}
+use Rattle.lego_session.specs.Sessions.{Session, empty_session, context_of}
+use Rattle.lego_session.specs.Runs.{Runs, answers_text, some_refused, Closes, IsClosing, is_ending_refused}
 use Rattle.lego_session.specs.Step.{Reply}
 use Rattle.lego_session.specs.private.Gathered.{Gathers, HasFailed}
 use Rattle.lego_session.specs.private.Pending.{IsPending}
@@ -136,12 +136,24 @@ pub record IsUnderway (options : Options) (p : Progress) (left left' taken taken
   pub consumed : Consumes left left' read
   pub written : Appends taken taken' (answers_text answers)
 
+-- what follows the answers was taken; where it ends with a development, this denotes the entries
+pub record IsClosed (stop : Bool) (names : Names) (s : Session) (ending : Ending) (taken taken' : Option (List ℕ)) : Type 0 where
+  pub development : List ℕ
+  pub text : List ℕ
+  pub closes : Closes stop names s ending development text
+  pub written : Appends taken taken' text
+  pub headline : (stop && is_ending_refused ending) ≡ false → Headline names (context_of s) development
+
+-- a front of what follows the answers was taken
+abbrev pub IsClosedInPart : (stop : Bool) → Names → Session → Ending → (taken taken' : Option (List ℕ)) → Type 0
+IsClosedInPart stop names s ending taken taken' = (text : List ℕ) × IsClosing stop names s ending text × AppendsFront taken taken' text
+
 -- what follows the answers was taken, or a front of it
 abbrev pub IsFinished : (stop : Bool) → Names → Session → (refused : Bool) → Ending → (taken taken' : Option (List ℕ)) → Status → Type 0
 IsFinished stop names s refused ending taken taken' Accepted =
-    Appends taken taken' (closing_text stop names s ending) × ((refused || is_ending_refused ending) ≡ false) × Headline names (entries_of s)
+    IsClosed stop names s ending taken taken' × ((refused || is_ending_refused ending) ≡ false)
 IsFinished stop names s refused ending taken taken' Refused =
-    Appends taken taken' (closing_text stop names s ending) × ((refused || is_ending_refused ending) ≡ true) × Headline names (entries_of s)
-IsFinished stop names s refused ending taken taken' WriteFault = AppendsFront taken taken' (closing_text stop names s ending)
-IsFinished stop names s refused ending taken taken' Memory = AppendsFront taken taken' (closing_text stop names s ending)
+    IsClosed stop names s ending taken taken' × ((refused || is_ending_refused ending) ≡ true)
+IsFinished stop names s refused ending taken taken' WriteFault = IsClosedInPart stop names s ending taken taken'
+IsFinished stop names s refused ending taken taken' Memory = IsClosedInPart stop names s ending taken taken'
 IsFinished stop names s refused ending taken taken' _ = ⊥

@@ -1,30 +1,29 @@
-//! The bindings of a context command: assumptions, each of one type for all its names.
-ghost use Rattle.std.specs.Prelude.{◌≤◌, drop};
+//! Context commands: the entries of their bindings, all or none.
+ghost use Rattle.std.specs.Prelude.{◌≡◌, ◌<◌, ◌||◌, ℕ, is_some, true, map, length, slice_get, nat_eq, Some, OnOk, OnErr, IfOk, IfErr, List as Items};
+ghost use Rattle.std.specs.List.{list_any};
+ghost use Rattle.lego_context.specs.Contexts.{Contents};
+ghost use Rattle.lego_context.specs.Entries.{position_of, HasNoHole};
+ghost use Rattle.lego_grammar.specs.Surface.{written_binding};
 ghost use Rattle.lego_grammar.specs.Written.{Bindings};
+ghost use Rattle.lego_undo.specs.Histories.{GoesWith, HasExtent, front};
 ghost use Rattle.lego_undo.specs.Changes.{Notes};
-ghost use Rattle.lego_undo.specs.Histories.{GoesWith, front};
 ghost use Rattle.lego_session.specs.Step.{IsRefusal};
-ghost use Rattle.lego_session.specs.Texts.{entry_lines};
+ghost use Rattle.lego_session.specs.commands.Bindings.{AreNew, AddsBindings, Binds, BindsAll};
+ghost use Rattle.lego_session.specs.private.Binding.{AreRight, IsRight, IsFirstUsed, Extends, BindFails, BindAllFails, ShowsAdded};
 ghost use Rattle.lego_session.specs.private.Parts.{session_of};
-ghost use Rattle.std.specs.Prelude.{◌≡◌, ◌<◌, true, map, length, slice_get, Some, ℕ, ◌||◌, nat_eq, is_some, OnOk, OnErr, IfOk, IfErr};
-ghost use Rattle.std.specs.List.{list_all, list_any};
-ghost use Rattle.lego_grammar.specs.Surface.{written_binding, written_kind};
-ghost use Rattle.lego_kernel.specs.Entries.{position_of};
-ghost use Rattle.lego_kernel.specs.Simple.{IsSimpleOver};
-ghost use Rattle.lego_session.specs.Reading.{is_simple_assumption};
-ghost use Rattle.lego_session.specs.commands.Bindings.{AreNew, Binds, BindsAll, AddsBindings};
-ghost use Rattle.lego_session.specs.private.Binding.{HasPlaces, IsFirstUsed, Assumes, AssumeFails, IsFront, IsReadRefusal, IsCauseOf, BindFails, BindAllFails};
 
+use crate::commands::entries::{assume, define};
 use crate::parts::Parts;
-use crate::reading::{ReadFault, core_of};
 use crate::refusal::{Cause, Reason, Refusal};
 use crate::session::Answer;
 use crate::text::entry_lines;
 use indexmap::IndexSet;
 use lego_base::{Names, Place};
+use lego_context::Context;
 use lego_grammar::{Binding, BindingKind};
-use lego_kernel::{At, Context, TypeFault};
-use lego_term::{List, Mark, Term};
+use lego_inference::At;
+use lego_term::List;
+use lego_undo::{Extent, State};
 use std::alloc::{AllocError, Global};
 
 impl Parts {
@@ -36,8 +35,8 @@ impl Parts {
         bindings: &[Binding],
         limit: u64,
     ) -> Result<Answer, Refusal>
-        requires built { list_all (λ b. is_simple_assumption (written_kind b.kind)) bindings.now ≡ true }
-        requires written { HasPlaces (map written_binding bindings.now) }
+        requires right { AreRight (map written_binding bindings.now) }
+        requires no_hole { HasNoHole self.old.state.context.entries }
         requires goes { GoesWith self.old.history self.old.state }
         ensures ok { IfOk result (λ answer. AddsBindings names.now (session_of self.old) (map written_binding bindings.now) answer.text (session_of self.new)) }
         ensures counts { IfOk result (λ answer. answer.step ≡ true) }
@@ -45,14 +44,14 @@ impl Parts {
         ensures err { OnErr result ((self.new.state ≡ self.old.state) × (self.new.history ≡ self.old.history)) }
         ensures still_goes { GoesWith self.new.history self.new.state }
     {
-        let before = self.state.context.len();
-        if let Err(reason) = bind_all(self.alloc, &mut self.state.context, bindings, limit) {
+        let extent = self.state.extent();
+        if let Err(reason) = bind_all(self.alloc, &mut self.state, bindings, limit) {
             let refusal = self.refusal(names, reason.place, reason.cause);
-            self.state.context.forget(before);
+            self.state.cut_to(extent);
             return Err(refusal);
         }
-        let Ok(text) = self.note_added(names, before) else {
-            self.state.context.forget(before);
+        let Ok(text) = self.note_added(names, extent) else {
+            self.state.cut_to(extent);
             return Err(Refusal::memory(self.alloc, place));
         };
         Ok(Answer {
@@ -61,17 +60,20 @@ impl Parts {
         })
     }
 
-    /// Notes the entries from a place on as a step, and gives a line for each.
-    fn note_added(&mut self, names: &Names, before: usize) -> Result<Vec<u8>, AllocError>
-        requires within { before ≤ length self.old.state.context }
-        requires goes { GoesWith self.old.history (front before self.old.state) }
-        ensures text { IfOk result (λ text. text.items ≡ entry_lines names.now self.old.state.context (drop before self.old.state.context)) }
-        ensures noted { OnOk result (Notes self.old.history (front before self.old.state) self.old.state self.new.history) }
+    /// Notes what was added behind an extent as a step, and gives a line for each new entry.
+    fn note_added(&mut self, names: &Names, extent: Extent) -> Result<Vec<u8>, AllocError>
+        requires within { HasExtent extent self.old.state }
+        requires no_hole { HasNoHole self.old.state.context.entries }
+        requires goes { GoesWith self.old.history (front extent self.old.state) }
+        ensures text { IfOk result (λ text. ShowsAdded names.now self.old.state.context extent.entries text.items) }
+        ensures noted { OnOk result (Notes self.old.history (front extent self.old.state) self.old.state self.new.history) }
         ensures state { self.new.state ≡ self.old.state }
         ensures err { OnErr result (self.new.history ≡ self.old.history) }
     {
-        let text = entry_lines(self.alloc, names, &self.state.context, before)?;
-        self.history.note_growth(&self.state, before)?;
+        let context = &self.state.context;
+        let values = context.least()?;
+        let text = entry_lines(self.alloc, names, context, &values, extent.entries)?;
+        self.history.note_growth(&self.state, extent)?;
         Ok(text)
     }
 }
@@ -79,60 +81,71 @@ impl Parts {
 /// Makes the entries of all the bindings; a refused one leaves those of the bindings before.
 pub(crate) fn bind_all(
     alloc: Global,
-    context: &mut Context,
+    state: &mut State,
     bindings: &[Binding],
     limit: u64,
 ) -> Result<(), Reason>
-    requires built { list_all (λ b. is_simple_assumption (written_kind b.kind)) bindings.now ≡ true }
-    requires written { HasPlaces (map written_binding bindings.now) }
-    ensures ok { OnOk result (BindsAll context.old (map written_binding bindings.now) context.new) }
-    ensures cause { IfErr result (λ fault. BindAllFails context.old (map written_binding bindings.now) context.new fault.place fault.cause) }
+    requires right { AreRight (map written_binding bindings.now) }
+    requires no_hole { HasNoHole state.old.context.entries }
+    ensures ok { OnOk result (BindsAll state.old.context (map written_binding bindings.now) state.new.context) }
+    ensures cause { IfErr result (BindAllFails limit state.old.context (map written_binding bindings.now) state.new.context) }
+    ensures extends { Extends state.old.context state.new.context }
 {
     for binding in bindings {
-        if let Err(fault) = bind(alloc, context, binding, limit) {
-            return Err(fault);
-        }
+        bind(alloc, state, binding, limit)?;
     }
     Ok(())
 }
 
 /// Makes the entries of one binding, or none.
-fn bind(alloc: Global, context: &mut Context, binding: &Binding, limit: u64) -> Result<(), Reason>
-    requires built { is_simple_assumption (written_kind binding.now.kind) ≡ true }
-    requires places { length binding.now.places ≡ length binding.now.names }
-    requires some { 0 < length binding.now.names }
-    ensures ok { OnOk result (Binds context.old (written_binding binding.now) context.new) }
-    ensures cause { IfErr result (λ fault. BindFails context.old (written_binding binding.now) fault.place fault.cause) }
-    ensures err { OnErr result (context.new ≡ context.old) }
+fn bind(alloc: Global, state: &mut State, binding: &Binding, limit: u64) -> Result<(), Reason>
+    requires right { IsRight (written_binding binding.now) }
+    requires no_hole { HasNoHole state.old.context.entries }
+    ensures ok { OnOk result (Binds state.old.context (written_binding binding.now) state.new.context) }
+    ensures cause { IfErr result (BindFails limit state.old.context (written_binding binding.now)) }
+    ensures err { OnErr result (state.new ≡ state.old) }
+    ensures extends { Extends state.old.context state.new.context }
 {
-    let place = binding.place;
     let names = binding.names.items();
-    let Ok(used) = first_used(alloc, context, names) else {
-        return Err(memory(place));
+    let Ok(used) = first_used(alloc, &state.context, names) else {
+        return Err(Reason::memory(binding.place));
     };
     if let Some(at) = used {
         return Err(in_use(binding, at));
     }
-    let BindingKind::Assume { ty, .. } = &binding.kind else {
-        unreachable!()
+    let extent = state.extent();
+    if let Err(reason) = make(alloc, &mut state.context, binding, limit) {
+        state.cut_to(extent);
+        return Err(reason);
+    }
+    Ok(())
+}
+
+/// Makes the entries of a binding whose names are new; where one is refused, those before it stay.
+fn make(alloc: Global, context: &mut Context, binding: &Binding, limit: u64) -> Result<(), Reason>
+    requires right { IsRight (written_binding binding.now) }
+    requires no_hole { HasNoHole context.old.entries }
+    requires new { AreNew context.old.entries binding.now.names }
+    ensures ok { OnOk result (Binds context.old (written_binding binding.now) context.new) }
+    ensures cause { IfErr result (BindFails limit context.old (written_binding binding.now)) }
+    ensures extends { Extends context.old context.new }
+{
+    let names = binding.names.items();
+    let asked = At {
+        place: binding.place,
+        limit,
     };
-    let ty = match core_of(alloc, context, ty) {
-        Ok(ty) => ty,
-        Err(fault) => return Err(not_read(place, fault)),
-    };
-    let before = context.len();
-    match assume_names(context, names, &ty, At { place, limit }) {
-        Ok(()) => Ok(()),
-        Err(fault) => {
-            context.forget(before);
-            Err(not_assumed(place, fault))
+    match &binding.kind {
+        BindingKind::Assume { mark, ty } => assume(alloc, context, names, *mark, ty, asked),
+        BindingKind::Define { body, ty } => {
+            define(alloc, context, names[0], body, ty.as_ref(), asked)
         }
     }
 }
 
 /// The first name that an entry has or that stands earlier in the list.
 fn first_used(alloc: Global, context: &Context, names: &[u32]) -> Result<Option<usize>, AllocError>
-    ensures { IfOk result (λ used. IsFirstUsed context.now names.now used) }
+    ensures { IfOk result (λ used. IsFirstUsed context.now.entries names.now used) }
 {
     let mut seen = IndexSet::new(alloc);
     for i in 0..names.len() {
@@ -149,27 +162,9 @@ fn first_used(alloc: Global, context: &Context, names: &[u32]) -> Result<Option<
 
 /// Whether an entry has the name, or it was seen.
 fn is_used(context: &Context, seen: &IndexSet<u32>, name: u32) -> bool
-    ensures { result ≡ (is_some (position_of context.now name) || list_any (nat_eq name) seen.now.keys) }
+    ensures { result ≡ (is_some (position_of context.now.entries name) || list_any (nat_eq name) seen.now.keys) }
 {
     context.position(name).is_some() || seen.contains(&name)
-}
-
-/// Adds an assumption of the type for each name, of which none is in use.
-fn assume_names(context: &mut Context, names: &[u32], ty: &Term, at: At) -> Result<(), TypeFault>
-    requires simple { IsSimpleOver context.old ty.now }
-    requires new { AreNew context.old names.now }
-    requires some { 0 < length names.now }
-    ensures ok { OnOk result (Assumes context.old names.now ty.now context.new) }
-    ensures cause { IfErr result (λ fault. AssumeFails context.old names.now ty.now fault) }
-    ensures front { IsFront context.old context.new }
-{
-    let _entries = context.len();
-    for i in 0..names.len() {
-        if let Err(fault) = context.assume(names[i], Mark::Plain, ty, at) {
-            return Err(fault);
-        }
-    }
-    Ok(())
 }
 
 /// The refusal of the name at a place of the list.
@@ -184,50 +179,5 @@ fn in_use(binding: &Binding, at: usize) -> Reason
         cause: Cause::NameInUse {
             name: binding.names.items()[at],
         },
-    }
-}
-
-/// The refusal of a simple written type that is not read.
-fn not_read(place: Place, fault: ReadFault) -> Reason
-    requires { fault ≡ ReadFault.NotBuilt → ⊥ }
-    ensures { IsReadRefusal place fault result.place result.cause }
-{
-    match fault {
-        ReadFault::NotBuilt => unreachable!(),
-        ReadFault::Unknown { place, name } => Reason {
-            place,
-            cause: Cause::UnknownName { name },
-        },
-        ReadFault::TooLarge { size, depth } => Reason {
-            place,
-            cause: Cause::TooLarge { size, depth },
-        },
-        ReadFault::Memory => memory(place),
-    }
-}
-
-/// The refusal of an assumption whose name is new.
-fn not_assumed(place: Place, fault: TypeFault) -> Reason
-    requires { (at : ℕ) → fault ≡ TypeFault.NameInUse at → ⊥ }
-    ensures place { result.place ≡ place }
-    ensures cause { IsCauseOf fault result.cause }
-{
-    let cause = match fault {
-        TypeFault::NotAType { term, got } => Cause::NotAType { term, got },
-        TypeFault::Full { of, held } => Cause::Full { of, held },
-        TypeFault::NameInUse { .. } => unreachable!(),
-        TypeFault::Memory => Cause::Memory,
-    };
-    Reason { place, cause }
-}
-
-/// Memory ran out.
-fn memory(place: Place) -> Reason
-    ensures place { result.place ≡ place }
-    ensures cause { result.cause ≡ Cause.Memory }
-{
-    Reason {
-        place,
-        cause: Cause::Memory,
     }
 }

@@ -1,5 +1,6 @@
 //! `Forget x`: the entries before the named one stay.
 ghost use Rattle.std.specs.Prelude.{◌≡◌, ◌++◌, ℕ, true, codes, decimal, OnErr, IfOk, IfErr};
+ghost use Rattle.lego_context.specs.Entries.{HasNoHole};
 ghost use Rattle.lego_undo.specs.Histories.{GoesWith};
 ghost use Rattle.lego_base.specs.declared.place.Place.{Place as ThePlace};
 ghost use Rattle.lego_grammar.specs.Written.{Forget};
@@ -23,12 +24,13 @@ impl Parts {
         place: Place,
         name: u32,
     ) -> Result<Answer, Refusal>
-        requires { GoesWith self.old.history self.old.state }
+        requires no_hole { HasNoHole self.old.state.context.entries }
+        requires goes { GoesWith self.old.history self.old.state }
         ensures ok { IfOk result (λ answer. Forgets (session_of self.old) name answer.text (session_of self.new)) }
         ensures counts { IfOk result (λ answer. answer.step ≡ true) }
         ensures cause { (limit : ℕ) (first : ThePlace) → IfErr result (λ refusal. IsRefusal names.now limit (session_of self.old) (record { place = first; act = Forget (record { place = place; name = name }) }) refusal.place refusal.cause refusal.text) }
         ensures err { OnErr result ((self.new.state ≡ self.old.state) × (self.new.history ≡ self.old.history)) }
-        ensures goes { GoesWith self.new.history self.new.state }
+        ensures still_goes { GoesWith self.new.history self.new.state }
     {
         let Some(at) = self.state.context.position(name) else {
             return Err(self.refusal(names, place, Cause::UnknownName { name }));

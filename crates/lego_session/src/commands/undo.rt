@@ -1,5 +1,6 @@
 //! `Undo n`: the session before the last n steps is back.
 ghost use Rattle.std.specs.Prelude.{◌≡◌, ◌++◌, ℕ, false, codes, decimal, OnErr, IfOk, IfErr};
+ghost use Rattle.lego_context.specs.Entries.{HasNoHole};
 ghost use Rattle.lego_undo.specs.Histories.{GoesWith};
 ghost use Rattle.lego_grammar.specs.Written.{Undo};
 ghost use Rattle.lego_session.specs.Step.{IsRefusal};
@@ -22,12 +23,13 @@ impl Parts {
         place: Place,
         count: u64,
     ) -> Result<Answer, Refusal>
-        requires { GoesWith self.old.history self.old.state }
+        requires no_hole { HasNoHole self.old.state.context.entries }
+        requires goes { GoesWith self.old.history self.old.state }
         ensures ok { IfOk result (λ answer. TakesBack (session_of self.old) count answer.text (session_of self.new)) }
         ensures counts { IfOk result (λ answer. answer.step ≡ false) }
         ensures cause { (limit : ℕ) → IfErr result (λ refusal. IsRefusal names.now limit (session_of self.old) (record { place = place; act = Undo count }) refusal.place refusal.cause refusal.text) }
         ensures err { OnErr result ((self.new.state ≡ self.old.state) × (self.new.history ≡ self.old.history)) }
-        ensures goes { GoesWith self.new.history self.new.state }
+        ensures still_goes { GoesWith self.new.history self.new.state }
     {
         let Ok(text) = undone_text(self.alloc, count) else {
             return Err(Refusal::memory(self.alloc, place));

@@ -1,6 +1,6 @@
 use Rattle.std.proofs.Common.{arith}
 use Rattle.lego_grammar.specs.Surface.{written_command}
-use Rattle.lego_session.proofs.AnswerLemmas.{numbered, command_written, unread_written, written_known}
+use Rattle.lego_session.proofs.AnswerLemmas.{numbered, command_written, unread_written, run_known, unread_known}
 use Rattle.lego_session.proofs.answers.answer.Goals as goal
 
 pub returns-in-Ok-clause-answered : goal.returns-in-Ok-clause-answered
@@ -12,9 +12,7 @@ returns-in-Ok-clause-answered c =
 
 pub returns-in-Ok-clause-still_known : goal.returns-in-Ok-clause-still_known
 returns-in-Ok-clause-still_known c =
-    written_known c.args.limit c.args.names.now c.read_command-outcome.new.names c.args.session.now c.run_command.new.session
-    (record { place = c.args.place; bytes = c.args.bytes.now }) c.run_command.result (omega (arith, c.len-held.ensures.exact, c.len-held.ensures.limit)) c.requires.known
-    (returns-in-Ok-clause-answered c)
+    run_known c.run_command.result c.in-Ok.ensures.command c.run_command.ensures.known c.requires.known
 
 pub returns-in-Err-clause-answered : goal.returns-in-Err-clause-answered
 returns-in-Err-clause-answered c =
@@ -24,6 +22,5 @@ returns-in-Err-clause-answered c =
 
 pub returns-in-Err-clause-still_known : goal.returns-in-Err-clause-still_known
 returns-in-Err-clause-still_known c =
-    written_known c.args.limit c.args.names.now c.read_command-outcome.new.names c.args.session.now c.args.session.now
-    (record { place = c.args.place; bytes = c.args.bytes.now }) c.written.result (omega (arith, c.len-held.ensures.exact, c.len-held.ensures.limit)) c.requires.known
-    (returns-in-Err-clause-answered c)
+    unread_known {s = c.args.session.now} c.written.result _ c.in-Err.ensures.unread (omega (arith, c.len-held.ensures.exact, c.len-held.ensures.limit))
+    c.refusal.ensures c.written.ensures c.requires.known

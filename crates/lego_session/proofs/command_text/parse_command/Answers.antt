@@ -9,9 +9,6 @@ parse-requires-clause-ranges c = names_have_ranges c.args.place c.args.bytes.now
 pub parse-requires-clause-ends : goal.parse-requires-clause-ends
 parse-requires-clause-ends c = ends_so c.args.place c.args.bytes.now c.args.tokens.now c.requires.text c.requires.lexed.lexed
 
-pub is_built-requires : goal.is_built-requires
-is_built-requires c = written_form c.args.place c.args.bytes.now c.args.tokens.now c.in-Ok.command c.requires.lexed c.in-Ok.ensures.form
-
 pub not_parsed-requires-clause-token : goal.not_parsed-requires-clause-token
 not_parsed-requires-clause-token c = its_token c.args.names.now c.args.bytes.now c.args.tokens.now c.in-Err.fault c.in-Err.ensures.cause
 

@@ -1,10 +1,18 @@
-use Rattle.std.proofs.Common.{◌≡◌, ◌∙◌, length, take, arith, subst, length-take, length-append}
+use Rattle.std.proofs.Common.{◌≡◌, ◌∙◌, refl, take, arith, subst, length-take, length-append}
 use Rattle.std.specs.Io.KnownBytes.{Consumes}
 use Rattle.lego_session.specs.private.Pending.{ending_of}
 use Rattle.lego_session.specs.private.Progress.{IsEnded}
-use Rattle.lego_session.proofs.OutcomeLemmas.{broken, finished, ended, passed}
+use Rattle.lego_session.proofs.OutcomeLemmas.{underway_first, broken, finished, not_counted, ended, passed}
 use Rattle.lego_session.proofs.ProgressLemmas.{fed_is}
 use Rattle.lego_session.proofs.running.run_script.Goals as goal
+
+pub loop-count-init : goal.loop-count-init
+loop-count-init g c = record {
+  underway = underway_first c.args.options c.new-progress.result (g.S.Source.left c.args.script.now) (g.K.Sink.taken c.args.out.now) c.new-progress.ensures.asked c.new-progress.ensures.fresh;
+  sent = c.new-gathered.ensures;
+  source = refl;
+  sink = refl;
+}
 
 pub returns-in_default-clause-output : goal.returns-in_default-clause-output
 returns-in_default-clause-output g c =
@@ -21,6 +29,10 @@ returns-then-count-eq0-clause-output g c =
     (ending_of c.rest-rest.result) (c.rest-rest.ensures u.read u.answers u.answered) (g.S.Source.left c.read.new.self) (g.K.Sink.taken c.finish.new.out)
     (subst (λ n. Consumes (g.S.Source.left c.loop-count.script) (g.S.Source.left c.read.new.self) (take n c.read.new.into)) none bytes.0)
     (bytes.1 none (omega (arith, c.read.auto.into))) c.finish.result c.finish.ensures.finished
+
+pub returns-then-count-eq0-clause-sink : goal.returns-then-count-eq0-clause-sink
+returns-then-count-eq0-clause-sink g c = λ no_fault.
+    not_counted (g.K.Sink.faults c.loop-count.out) (g.K.Sink.faults c.finish.new.out) c.finish.result c.finish.ensures.counted no_fault ∙ c.loop-count.invariant.sink
 
 pub returns-in-Err-clause-output : goal.returns-in-Err-clause-output
 returns-in-Err-clause-output g c =

@@ -1,10 +1,11 @@
-use Rattle.std.proofs.Common.{◌++◌, codes, sym, ap, ◌∙◌}
-use Rattle.lego_session.specs.Texts.{entry_text}
-use Rattle.lego_session.proofs.TextLemmas.{next_from}
+use Rattle.std.proofs.Common.{refl, subst, drop, sym}
+use Rattle.lego_print.specs.declared.shown.Shown.TheVariants.{Least}
+use Rattle.lego_session.specs.private.Items.{AreItemsOf}
+use Rattle.lego_session.proofs.HeadlineLemmas.{lines_are}
 use Rattle.lego_session.proofs.text.entry_lines.Goals as goal
 
-pub loop-at-preserved : goal.loop-at-preserved
-loop-at-preserved c =
-    c.in_ok-push_entry_line.ensures
-    ∙ ap (λ t. t ++ (entry_text c.args.names.now c.args.context.now c.in-Some.entry.now ++ codes "\n")) c.loop-at.invariant
-    ∙ sym (next_from (λ e. entry_text c.args.names.now c.args.context.now e ++ codes "\n") c.args.context.now c.args.from c.loop-at.at c.in-Some.entry.now c.loop-at.auto.at (sym c.in-Some.ensures))
+pub returns : goal.returns
+returns c =
+    let es = c.args.context.now.entries in
+    lines_are c.args.names.now c.args.values.now es c.args.from c.deref.result.now _ (Least c.args.values)
+    (subst (λ items. AreItemsOf items (drop c.args.from es)) (sym c.deref.ensures.value) c.in_ok-items.ensures) c.of.ensures refl c.entry_lines.result c.entry_lines.ensures

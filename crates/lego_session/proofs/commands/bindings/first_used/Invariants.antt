@@ -6,5 +6,5 @@ use Rattle.lego_session.proofs.commands.bindings.first_used.Given as goal
 abbrev pub invariant-loop-i : goal.invariant-loop-i
 invariant-loop-i l = record {
   seen : l.seen.keys ≡ take l.i l.names;
-  new : FirstAreNew l.context l.names l.i;
+  new : FirstAreNew l.context.entries l.names l.i;
 }

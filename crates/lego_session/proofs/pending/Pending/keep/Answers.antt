@@ -1,7 +1,7 @@
 use Rattle.std.proofs.Common.{◌≡◌, ◌+◌, ◌-◌, ◌++◌, [], ◌∙◌, ap, subst, sym, arith, length, min, take, drop}
 use Rattle.lego_session.specs.private.Pending.{IsKept, IsStart}
 use Rattle.lego_session.proofs.PendingLemmas.{keeps_on, keeps_anew, from_on}
-use Rattle.lego_session.proofs.TextLemmas.{on_ok-map}
+use Rattle.lego_session.proofs.GatheredLemmas.{on_ok-map}
 use Rattle.lego_session.proofs.pending.Pending.keep.Goals as goal
 
 pub returns-then-start-base-clause-kept : goal.returns-then-start-base-clause-kept

@@ -1,5 +1,5 @@
 use Rattle.std.proofs.Common.{[], refl}
-use Rattle.lego_session.proofs.KnownLemmas.{empty_known}
+use Rattle.lego_session.proofs.HeldLemmas.{empty_known}
 use Rattle.lego_session.proofs.RunLemmas.{reached_first}
 use Rattle.lego_session.proofs.progress.Progress.new.Goals as goal
 
@@ -11,5 +11,5 @@ returns-clause-fresh c = record {
   reached = rw (c.new-names.ensures, c.new-session.ensures) (reached_first c.args.options.steps c.args.options.stop);
   refused = refl;
   pending = c.new-pending.ensures;
-  known = rw (c.new-names.ensures, c.new-session.ensures) (empty_known []);
+  known = rw (c.new-names.ensures, c.new-session.ensures) empty_known;
 }

@@ -12,9 +12,9 @@ returns-clause-ok c =
     elim c.if-extends.branch [
       | then-extends w ↦
           let is = c.extends.ensures.0 (search (rules, w.if-extends.true)) in
-          let change = w.change-is ∙ ap (λ n. Cut n) w.len-entries.ensures.exact in
+          let change = w.change-is ∙ ap (λ n. Cut n) w.extent-extent.ensures.exact in
           on_ok c.push.result
-          (λ e. extended cs c.args.old.now c.args.new.now is c.requires (e ∙ ap (λ (x : Change). cs ++ x ∷ []) change)) c.push.ensures.ok
+          (λ e. extended cs c.args.old.now c.args.new.now w.extent-extent.ensures.context is c.requires (e ∙ ap (λ (x : Change). cs ++ x ∷ []) change)) c.push.ensures.ok
       | else-extends+in_ok-state w ↦
           let never : IsFrontOf c.args.old.now c.args.new.now → ⊥ = λ x. let t = c.extends.ensures.1 x in let f = w.if-extends.false in search rules in
           let change = w.change-is ∙ ap (λ s. Whole s) w.in_ok-state.ensures in

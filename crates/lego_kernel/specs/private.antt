@@ -1,2 +1,0 @@
--- Definitions that only private functions and proofs need.
-pub mod EntryCode

@@ -1,0 +1,16 @@
+pub mod PartLemmas
+pub mod ReadyLemmas
+pub mod BinderLemmas
+pub mod ValueLemmas
+pub mod EntryLemmas
+pub mod UniverseLemmas
+pub mod ScopeLemmas
+pub mod AnnotationLemmas
+pub mod SizeLemmas
+pub mod RunLemmas
+pub mod CallLemmas
+pub mod ReadableLemmas
+pub mod NodeLemmas
+pub mod CoreLemmas
+pub mod CutLemmas
+pub mod OverLemmas
