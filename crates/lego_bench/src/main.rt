@@ -1,8 +1,10 @@
-//! Runs workloads of terms, of reduction and of levels, each named by a word and sized by the next
+//! Runs workloads of terms, of reduction, of levels and of contexts, each named by a word and sized by the next
 //! word, and prints what each came to.
 #![tactic(auto)]
 
 mod comparison;
+mod contexts;
+mod development;
 mod fault;
 mod levels;
 mod workload;
@@ -33,6 +35,10 @@ fn main(rt: HostRuntime) -> Result<(), BenchFault> {
                 println!(rt;
                     "{name} {size}: {count} constraints, {value} at most, {refused} refused"
                 )
+            }
+            Outcome::Contexts(added) => {
+                let (entries, levels, refused) = (added.entries, added.levels, added.refused);
+                println!(rt; "{name} {size}: {entries} entries, {levels} levels, {refused} refused")
             }
         };
         if printed.is_err() {

@@ -3,6 +3,7 @@ ghost use Rattle.std.specs.Prelude.{IfOk};
 ghost use Rattle.lego_term.specs.BodyMap.{AreClosed};
 
 use crate::comparison;
+use crate::contexts::{Added, run_contexts};
 use crate::fault::BenchFault;
 use crate::levels::{Held, run_levels};
 use lego_reduce::{ReduceFault, head, normal};
@@ -64,6 +65,7 @@ pub struct Counts {
 pub enum Outcome {
     Terms(Counts),
     Levels(Held),
+    Contexts(Added),
 }
 
 /// Runs the workload of this name.
@@ -72,6 +74,13 @@ pub fn run_workload(alloc: Global, name: &str, size: u32) -> Result<Outcome, Ben
         "chain" | "back" | "mixed" | "layers" | "cycles" | "again" | "ring" | "both" => {
             Ok(Outcome::Levels(run_levels(alloc, name, size)?))
         }
+        "definitions"
+        | "universes"
+        | "downwards"
+        | "tree"
+        | "telescope"
+        | "refusals"
+        | "doubling" => { Ok(Outcome::Contexts(run_contexts(alloc, name, size)?)) }
         _ => Ok(Outcome::Terms(run_terms(alloc, name, size)?)),
     }
 }
