@@ -5,6 +5,7 @@ use crate::fault::BenchFault;
 use crate::workload::PLAIN;
 use lego_term::{Mark, Term, TermFault, app, konst, lam, local, pi, prop, var};
 use std::alloc::Global;
+use std::fmt;
 
 /// How often an entry is refused.
 const REFUSALS: u64 = 100;
@@ -23,6 +24,13 @@ pub struct Added {
     pub entries: u64,
     pub levels: u64,
     pub refused: u64,
+}
+
+impl fmt::Display for Added {
+    fn fmt<W: fmt::Write>(&self, f: &mut fmt::Formatter<W>) -> fmt::Result {
+        let (entries, levels, refused) = (self.entries, self.levels, self.refused);
+        write!(f, "{entries} entries, {levels} levels, {refused} refused")
+    }
 }
 
 /// The order in which chained universes come.

@@ -60,12 +60,29 @@ pub struct Counts {
     pub found: Found,
 }
 
+impl fmt::Display for Counts {
+    fn fmt<W: fmt::Write>(&self, f: &mut fmt::Formatter<W>) -> fmt::Result {
+        let (nodes, depth, found) = (self.nodes, self.depth, self.found);
+        write!(f, "{nodes} nodes, {depth} deep, {found}")
+    }
+}
+
 /// What a workload came to.
 #[derive(Debug, Clone, Copy, PartialEq, Eq, Drop)]
 pub enum Outcome {
     Terms(Counts),
     Levels(Held),
     Contexts(Added),
+}
+
+impl fmt::Display for Outcome {
+    fn fmt<W: fmt::Write>(&self, f: &mut fmt::Formatter<W>) -> fmt::Result {
+        match self {
+            Outcome::Terms(counts) => write!(f, "{counts}"),
+            Outcome::Levels(held) => write!(f, "{held}"),
+            Outcome::Contexts(added) => write!(f, "{added}"),
+        }
+    }
 }
 
 /// Runs the workload of this name.
