@@ -1,4 +1,5 @@
 pub mod Names
+pub mod Holes
 pub mod Texts
 pub mod Headings
 pub mod Entries

@@ -2,10 +2,12 @@
 #![tactic(auto)]
 
 mod behind;
+mod called;
 mod development;
 mod entries;
 mod front;
 mod heading;
+mod hole;
 mod item;
 mod laws;
 mod limits;
@@ -22,6 +24,7 @@ mod text;
 mod universes;
 mod used;
 
+pub use called::Called;
 pub use development::development_text;
 pub use entries::Entries;
 pub use heading::Heading;
