@@ -1,7 +1,7 @@
 use Rattle.std.proofs.Common.{◌∙◌, nat_eq, IfSome, subst}
 use Rattle.indexmap.proofs.CallerLemmas.{insert_entry-new}
 use Rattle.lego_context.specs.private.Lists.{IsNewPlace}
-use Rattle.lego_context.proofs.context.copying.place.Goals as goal
+use Rattle.lego_context.proofs.context.adding.place.Goals as goal
 
 pub returns-in_ok-insert : goal.returns-in_ok-insert
 returns-in_ok-insert c =
