@@ -183,18 +183,19 @@ fn deep(alloc: Global, depth: u32) -> Result<Term, TermFault> {
     Ok(product)
 }
 
+/// Two terms of half the greatest depth are put together in the type of an application.
 #[test]
 fn a_type_that_is_too_deep_is_refused(rt: HostRuntime) -> Result<(), Fail> {
     let alloc = rt.alloc();
     let mut context = fixture(alloc)?;
     let top = universe(alloc, 9)?;
     let mut result = var(alloc, 0)?;
-    for _ in 0..3 {
+    for _ in 0..1_000 {
         result = sigma(alloc, PLAIN, &result, &prop(alloc)?)?;
     }
     let family = pi(alloc, PLAIN, &top, &result)?;
     assume(&mut context, 10, &family)?;
-    let argument = deep(alloc, 1_997)?;
+    let argument = deep(alloc, 1_000)?;
     let applied = app(alloc, Mark::Plain, &konst(alloc, 2)?, &argument)?;
     let Err(TypeFault::TooLarge { depth, .. }) = infer(alloc, &context, &applied) else {
         return Err(Fail::new("too large"));
