@@ -12,6 +12,7 @@ pub mod Renumbered
 pub mod ReadTerms
 pub mod CountedLemmas
 pub mod PrintedNames
+pub mod Holes
 pub mod Ranks
 pub mod Calm
 pub mod ReadCommands
