@@ -36,13 +36,12 @@ abbrev pub is_local_at : ℕ → ℕ → Core → Bool
 is_local_at d k (Var i) = nat_eq (i + suc k) d
 is_local_at d k _ = false
 
--- the term is a constant applied to the outermost k of d local variables, in order, and to nothing else
-abbrev pub is_applied_to : ℕ → ℕ → Core → Bool
-is_applied_to d k (Const c) = nat_eq k 0
-is_applied_to d zero (App mark m n) = false
-is_applied_to d (suc k) (App mark m n) = is_local_at d k n && is_applied_to d k m
-is_applied_to d k _ = false
+-- a constant is applied to the outermost k of d local variables, in order, and to nothing else
+abbrev pub is_applied_to : ℕ → Core → ℕ → Bool
+is_applied_to d (Const c) zero = true
+is_applied_to d (App mark m n) (suc k) = is_local_at d k n && is_applied_to d m k
+is_applied_to d _ k = false
 
 -- the term is a hole applied to exactly its own hypotheses
 abbrev pub stands_at_its_hypotheses : Scope → Core → Bool
-stands_at_its_hypotheses scope t = unwrap_or (option_map (λ k. is_applied_to (length scope.locals) k t) (hypotheses_of (head_called scope t))) false
+stands_at_its_hypotheses scope t = unwrap_or (option_map (λ k. is_applied_to (length scope.locals) t k) (hypotheses_of (head_called scope t))) false

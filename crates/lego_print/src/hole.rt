@@ -25,7 +25,7 @@ fn is_local_at(term: &Term, locals: u32, around: u32) -> bool
 /// The constant that the term applies to exactly so many of the outermost local variables, in
 /// order.
 fn applied_constant(term: &Term, locals: u32, count: u32) -> Option<u32>
-    ensures { result ≡ applied_constant locals count term.now }
+    ensures { result ≡ applied_constant locals term.now count }
 {
     match term.view() {
         Node::Const(number) if count == 0 => Some(number),

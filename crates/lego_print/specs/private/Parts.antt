@@ -59,10 +59,10 @@ is_below wanted (App mark m n) = nat_lt 2 wanted
 is_below wanted _ = false
 
 -- the constant that is applied to the outermost k of d local variables, in order, and to nothing else
-abbrev pub applied_constant : ℕ → ℕ → Core → Option ℕ
-applied_constant d zero (Const c) = Some c
-applied_constant d (suc k) (App mark m n) = if is_local_at d k n then applied_constant d k m else None
-applied_constant d k _ = None
+abbrev pub applied_constant : ℕ → Core → ℕ → Option ℕ
+applied_constant d (Const c) zero = Some c
+applied_constant d (App mark m n) (suc k) = if is_local_at d k n then applied_constant d m k else None
+applied_constant d _ k = None
 
 -- the hole that an application applies to exactly its own hypotheses
 abbrev pub own_hole : Scope → Core → Option Called
