@@ -1,12 +1,17 @@
 //! The number of nodes of a term, where a local definition counts as its value put for its
 //! variable, and the value by itself.
-ghost use Rattle.std.specs.Prelude.{◌≡◌, ◌++◌, ◌∷◌, [], OnOk};
+ghost use Rattle.std.specs.Prelude.{◌≡◌, ◌+◌, ◌≤◌, ◌++◌, ◌∷◌, [], OnOk, IfOk, IfErr};
 ghost use Rattle.lego_laws.specs.RuleTypes.{nodes as nodes_of};
-ghost use Rattle.lego_rule_types.specs.private.Counting.{Counts, IsCounted, scope_of, nodes_in};
+ghost use Rattle.lego_rule_types.specs.private.Counting.{Counts, IsCounted, IsBehind, scope_of, nodes_in};
+ghost use Rattle.lego_inference.specs.declared.fault.TypeFault.TheVariants as fault;
 ghost use Rattle.lego_rule_types.specs.declared.nodes.Uncounted.TheVariants.{Memory};
 
+use lego_inference::{Counted, TypeFault};
 use lego_term::{Node, Term};
 use std::alloc::{AllocError, Global};
+
+/// The most level variables that are held.
+const MAX_LEVELS: u32 = 1_048_576;
 
 /// Why nodes were not counted.
 #[derive(Debug, Clone, Copy, PartialEq, Eq)]
@@ -89,7 +94,9 @@ fn nodes_under(t: &Term, bound: u32, most: u32, scope: &mut Vec<u32>) -> Result<
     ensures counted { Counts (nodes_in (scope.old.items ++ bound ∷ []) t.now) most result }
     ensures kept { OnOk result (scope.new.items ≡ scope.old.items) }
 {
-    scope.push(bound)?;
+    let Ok(()) = scope.push(bound) else {
+        return Err(Uncounted::Memory);
+    };
     let counted = nodes_within(t, most, scope)?;
     scope.pop();
     Ok(counted)
@@ -115,4 +122,31 @@ fn within(count: u64, most: u32) -> Result<u32, Uncounted>
         return Err(Uncounted::Over);
     }
     Ok(count as u32)
+}
+
+/// The number of the node behind the term, whose nodes are numbered from `first` on.
+pub(crate) fn counted_behind(alloc: Global, t: &Term, first: u32) -> Result<u32, TypeFault>
+    requires { first ≤ 1048576 }
+    ensures { IsBehind (first + nodes_of t.now) result }
+{
+    match nodes(alloc, t, MAX_LEVELS - first) {
+        Ok(count) => Ok(first + count),
+        Err(Uncounted::Over) => Err(TypeFault::Full {
+            of: Counted::Levels,
+            held: MAX_LEVELS,
+        }),
+        Err(Uncounted::Memory) => Err(TypeFault::Memory),
+    }
+}
+
+/// The same of a term whose nodes all have level variables.
+pub(crate) fn behind(alloc: Global, t: &Term, first: u32) -> Result<u32, TypeFault>
+    requires { first + nodes_of t.now ≤ 1048576 }
+    ensures ok { IfOk result (λ next. next ≡ first + nodes_of t.now) }
+    ensures err { IfErr result (λ fault. fault ≡ fault.Memory) }
+{
+    match counted_behind(alloc, t, first) {
+        Ok(next) => Ok(next),
+        Err(_) => Err(TypeFault::Memory),
+    }
 }
