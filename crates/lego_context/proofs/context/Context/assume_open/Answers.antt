@@ -45,3 +45,28 @@ store-requires c =
     c.new-locals.result c.args.ty.now BeAType c.new-locals.ensures c.self.view_is c.in_ok-judged.ensures in
     subst (λ (t : Core). IsNext c.args.self.now (hole c.self.inside.free c.args.hypotheses t judged.constraints) judged.levels) (sym c.in_ok-share.ensures.same)
     (next_hole c.args.self.now x c.self.inside.free least c.args.ty.now c.requires.term c.args.asked judged j c.args.hypotheses c.requires.products)
+
+pub returns-in_err-store : goal.returns-in_err-store
+returns-in_err-store c =
+    let e = err_from_is_err_and c.from_residual-in_err-store.result c.from_residual-in_err-store.ensures.1 in
+    let x = subst IsContext c.self.view_is c.self.invariant.0 in
+    let least = subst (λ (z : Contents). IsLeastFree z.entries c.self.inside.free) c.self.view_is c.self.invariant.1.free in
+    let judged = c.in_ok-judged.judged in
+    let j =
+    at_context (λ (t : Task). over.IsInferredType t c.args.asked.place judged) (record { entries = c.self.inside.signature; universes = c.self.inside.universes.items; levels = c.self.inside.levels }) c.args.self.now
+    c.new-locals.result c.args.ty.now BeAType c.new-locals.ensures c.self.view_is c.in_ok-judged.ensures in
+    rw (e.1, e.2) (
+      opening_fails c.args.self.now x c.self.inside.free least c.args.ty.now c.requires.term c.args.asked judged j c.in_err-store.field-0.0 c.in_err-store.ensures.0,
+      c.in_err-store.ensures.1,
+    )
+
+pub returns : goal.returns
+returns c =
+    let x = subst IsContext c.self.view_is c.self.invariant.0 in
+    let least = subst (λ (z : Contents). IsLeastFree z.entries c.self.inside.free) c.self.view_is c.self.invariant.1.free in
+    let judged = c.in_ok-judged.judged in
+    let j =
+    at_context (λ (t : Task). over.IsInferredType t c.args.asked.place judged) (record { entries = c.self.inside.signature; universes = c.self.inside.universes.items; levels = c.self.inside.levels }) c.args.self.now
+    c.new-locals.result c.args.ty.now BeAType c.new-locals.ensures c.self.view_is c.in_ok-judged.ensures in
+    opens c.args.self.now x c.self.inside.free least c.args.ty.now c.requires.term c.args.asked judged j c.args.hypotheses c.store.new.self
+    (subst (λ (t : Core). Stores c.args.self.now (hole c.self.inside.free c.args.hypotheses t judged.constraints) judged.levels c.store.new.self (Ok tt)) c.in_ok-share.ensures.same c.in_ok-store.ensures)
