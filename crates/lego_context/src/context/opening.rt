@@ -12,12 +12,7 @@ impl Context {
     ///
     /// Refused, in this order: the refusals of `infer`, `Universe`, `LevelTooBig`, `Full`; `Memory`
     /// at any point. The context is then as it was.
-    pub fn assume_open(
-        &mut self,
-        ty: &Term,
-        hypotheses: u32,
-        asked: At,
-    ) -> Result<u32, TypeFault>
+    pub fn assume_open(&mut self, ty: &Term, hypotheses: u32, asked: At) -> Result<u32, TypeFault>
         requires { CanOpen self.old ty.now hypotheses }
         ensures { Opens self.old ty.now hypotheses asked self.new result }
     {

@@ -1,4 +1,4 @@
-use Rattle.std.proofs.Common.{[], List, Ok, refl, sym, ◌∙◌, subst}
+use Rattle.std.proofs.Common.{[], List, Ok, refl, sym, subst}
 use Rattle.std.proofs.lemmas.Result.{err_from_is_err_and}
 use Rattle.lego_term.specs.Trees.{Core}
 use Rattle.lego_laws.specs.Places.{Task, BeAType}
