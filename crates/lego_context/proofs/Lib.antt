@@ -17,4 +17,5 @@ pub mod CutLemmas
 pub mod SettleLemmas
 pub mod TypedLemmas
 pub mod VariableLemmas
+pub mod FlagLemmas
 pub mod ListLemmas

@@ -51,40 +51,12 @@ universes_more us i d n m l here before =
     let next : n + 1 ≡ suc (get_or us i d).variable = omega (arith, here) in
     ap₂ (λ x y. max x y) next before ∙ universes-push (take i us) (get_or us i d) ∙ ap universes_bound (sym (take_more us i d l))
 
--- a test of the images of a list's items, item by item
-module _ {X Y : Type 0} (f : X → Y) (q : Y → Bool) where
-  pub none_more : (xs : List X) (i : ℕ) (d : X) (b : Bool) → i < length xs → list_any q (map f (take i xs)) ≡ false → b ≡ q (f (get_or xs i d)) → b ≡ false
-      → list_any q (map f (take (i + 1) xs)) ≡ false
-  none_more xs i d b l before is fails =
-      ap (λ (ys : List X). list_any q (map f ys)) (take_more xs i d l) ∙ ap (list_any q) (map-append f (take i xs) (get_or xs i d ∷ []))
-      ∙ list_any-append q (map f (take i xs)) (f (get_or xs i d) ∷ []) ∙ ap₂ (λ x y. x || (y || false)) before (sym is ∙ fails)
-
-  pub none_found : (xs : List X) (i : ℕ) → length xs ≤ i → list_any q (map f (take i xs)) ≡ false → false ≡ list_any q (map f xs)
-  none_found xs i l before = sym before ∙ ap (λ (ys : List X). list_any q (map f ys)) (take_all i xs l)
-
-  or_true : (b : Bool) → true ≡ (b || true)
-  or_true true = refl
-  or_true false = refl
-
-  pub one_found : (xs : List X) (i : ℕ) (d : X) (b : Bool) → i < length xs → b ≡ q (f (get_or xs i d)) → b ≡ true → true ≡ list_any q (map f xs)
-  one_found [] i d b l is passes = absurd (omega (arith, l))
-  one_found (x ∷ xs) zero d b l is passes = let first : q (f x) ≡ true = sym is ∙ passes in rw first refl
-  one_found (x ∷ xs) (suc i) d b l is passes = or_true (q (f x)) ∙ ap (λ z. q (f x) || z) (one_found xs i d b (omega (arith, l)) is passes)
-
 -- a variable that entries use is below their bound
 pub used_below : (u : ℕ) (es : List Item) → list_any (entry_uses u) (laws_entries es) ≡ true → u < entries_bound (laws_entries es)
 used_below u es h =
     let held : IsHeld u (laws_entries es) [] [] = rw h refl in
     let below = held_within u (entries_bound (laws_entries es)) (laws_entries es) [] [] (omega arith) (omega arith) (omega arith) held in
     omega (arith, below)
-
--- a variable that is not below it is not used
-pub unused : (u : ℕ) (es : List Item) → entries_bound (laws_entries es) ≤ u → list_any (entry_uses u) (laws_entries es) ≡ false
-unused u es above = by_test (list_any (entry_uses u) (laws_entries es)) refl
-  where
-    by_test : (b : Bool) → list_any (entry_uses u) (laws_entries es) ≡ b → b ≡ false
-    by_test true used = let below = used_below u es used in absurd (omega (arith, below, above))
-    by_test false used = refl
 
 kept_below : (es : List Item) (us : List Universe) → All (λ (u : Universe). u.variable < entries_bound (laws_entries es)) (universes_used es us)
 kept_below es us = All-from_recursion (λ (u : Universe). u.variable < entries_bound (laws_entries es)) (universes_used es us) (each us)

@@ -3,3 +3,4 @@ pub mod Kept
 pub mod Adding
 pub mod Cuts
 pub mod Lists
+pub mod Flags

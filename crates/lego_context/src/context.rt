@@ -18,6 +18,7 @@ mod levels;
 mod settling;
 mod typing;
 
+use crate::universes::Universes;
 use indexmap::IndexMap;
 use lego_inference::{Entry, Signature, Universe};
 use lego_level::Graph;
@@ -36,7 +37,7 @@ pub struct Context {
     signature: Signature,
     // the place of each name
     names: IndexMap<u32, usize>,
-    universes: Vec<Universe>,
+    universes: Universes,
     levels: u32,
     // the constraints of the entries, in order
     graph: Graph,
@@ -53,9 +54,9 @@ impl Model for Context {
 
     ghost coded = { contents_code };
 
-    ghost view = { λ c. record { entries = c.signature; universes = c.universes.items; levels = c.levels } };
+    ghost view = { λ c. record { entries = c.signature; universes = c.universes; levels = c.levels } };
 
-    ghost invariant = { λ c. IsContext (record { entries = c.signature; universes = c.universes.items; levels = c.levels }) × IsKept c.signature c.names.entries c.graph c.free };
+    ghost invariant = { λ c. IsContext (record { entries = c.signature; universes = c.universes; levels = c.levels }) × IsKept c.signature c.names.entries c.graph c.free };
 }
 
 impl Context {
@@ -67,7 +68,7 @@ impl Context {
             alloc,
             signature: Signature::new(alloc),
             names: IndexMap::new(alloc),
-            universes: Vec::new(alloc),
+            universes: Universes::new(alloc),
             levels: 0,
             graph: Graph::new(alloc),
             free: 0,
@@ -124,7 +125,7 @@ impl Context {
     pub fn universes(&self) -> &[Universe]
         ensures { result.now ≡ self.now.universes }
     {
-        &self.universes
+        self.universes.items()
     }
 
     /// How many level variables are held: those below this number.

@@ -4,7 +4,9 @@
 
 mod admission;
 mod context;
+mod flags;
 mod numbers;
+mod universes;
 mod variables;
 
 pub use context::{Context, Settled};

@@ -1,12 +1,9 @@
 //! Level variables of terms, constraints and entries.
-ghost use Rattle.std.specs.Prelude.{◌≡◌, max, ◌||◌, false, option_map, unwrap_or};
-ghost use Rattle.std.specs.List.{list_any};
-ghost use Rattle.lego_term.specs.Trees.{uses_level as is_used, is_over};
-ghost use Rattle.lego_laws.specs.Entries.{entry_uses as is_used_by};
+ghost use Rattle.std.specs.Prelude.{◌≡◌, max};
 ghost use Rattle.lego_laws.specs.Principal.{body_bound as bound_of_body, entries_bound as bound_of_entries};
 ghost use Rattle.lego_laws.specs.Ranges.{level_bound as bound_of_level, levels_bound as bound_of_term, pairs_bound};
 ghost use Rattle.lego_level.specs.Graphs.{pairs_of};
-ghost use Rattle.lego_inference.specs.Entries.{laws_entry, laws_entries};
+ghost use Rattle.lego_inference.specs.Entries.{laws_entries};
 ghost use Rattle.lego_context.specs.Forgetting.{universes_bound as bound_of_universes};
 
 use lego_inference::{Entry, Universe};
@@ -33,18 +30,6 @@ pub(crate) fn universes_bound(universes: &[Universe]) -> u64
         bound = (u64::from(universe.variable) + 1).max(bound);
     }
     bound
-}
-
-/// Whether the type, the body or the constraints of some entry have the level variable.
-pub(crate) fn is_named(entries: &[Entry], variable: u32) -> bool
-    ensures { result ≡ list_any (is_used_by variable) (laws_entries entries.now) }
-{
-    for entry in entries {
-        if entry_uses(entry, variable) {
-            return true;
-        }
-    }
-    false
 }
 
 fn entry_bound(entry: &Entry) -> u64
@@ -103,70 +88,5 @@ fn level_bound(level: Level) -> u64
     match level.base {
         Some(variable) => u64::from(variable) + 1,
         None => 0,
-    }
-}
-
-fn entry_uses(entry: &Entry, variable: u32) -> bool
-    ensures { result ≡ is_used_by variable (laws_entry entry.now) }
-{
-    term_uses(&entry.ty, variable)
-        || body_uses(&entry.body, variable)
-        || constraints_use(entry.constraints.items(), variable)
-}
-
-fn body_uses(body: &Option<Term>, variable: u32) -> bool
-    ensures { result ≡ unwrap_or (option_map (is_used variable) body.now) false }
-{
-    match body {
-        Some(body) => term_uses(body, variable),
-        None => false,
-    }
-}
-
-fn constraints_use(constraints: &[Constraint], variable: u32) -> bool
-    ensures { result ≡ list_any (λ c. is_over variable c.low || is_over variable c.high) (pairs_of constraints.now) }
-{
-    for constraint in constraints {
-        if constraint_uses(*constraint, variable) {
-            return true;
-        }
-    }
-    false
-}
-
-fn constraint_uses(constraint: Constraint, variable: u32) -> bool
-    ensures { result ≡ (is_over variable constraint.low || is_over variable constraint.high) }
-{
-    level_uses(constraint.low, variable) || level_uses(constraint.high, variable)
-}
-
-fn term_uses(t: &Term, variable: u32) -> bool
-    ensures { result ≡ is_used variable t.now }
-{
-    match t.view() {
-        Node::Var(_) | Node::Const(_) | Node::Prop => false,
-        Node::Univ(level) => level_uses(level, variable),
-        Node::Pi(_, a, b) => term_uses(a, variable) || term_uses(b, variable),
-        Node::Lam(_, a, m) => term_uses(a, variable) || term_uses(m, variable),
-        Node::App(_, m, n) => term_uses(m, variable) || term_uses(n, variable),
-        Node::Sigma(_, a, b) => term_uses(a, variable) || term_uses(b, variable),
-        Node::Pair(_, a, b, m, n) => {
-            term_uses(a, variable)
-                || term_uses(b, variable)
-                || term_uses(m, variable)
-                || term_uses(n, variable)
-        }
-        Node::Fst(m) => term_uses(m, variable),
-        Node::Snd(m) => term_uses(m, variable),
-        Node::Local(_, m, n) => term_uses(m, variable) || term_uses(n, variable),
-    }
-}
-
-fn level_uses(level: Level, variable: u32) -> bool
-    ensures { result ≡ is_over variable level }
-{
-    match level.base {
-        Some(base) => variable == base,
-        None => false,
     }
 }

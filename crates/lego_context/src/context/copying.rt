@@ -9,6 +9,7 @@ ghost use Rattle.lego_context.specs.private.Lists.{IsNewPlace};
 
 use super::Context;
 use crate::numbers::next_free;
+use crate::universes::Universes;
 use crate::variables::{entries_bound, universes_bound};
 use indexmap::IndexMap;
 use lego_inference::{Entry, Signature, Universe};
@@ -22,7 +23,7 @@ impl Context {
         ensures { IfOk result (λ context. context ≡ self.now) }
     {
         let entries = copy_entries(self.alloc, self.entries())?;
-        let universes = Vec::from_slice(self.alloc, &self.universes)?;
+        let universes = Vec::from_slice(self.alloc, self.universes.items())?;
         let graph = self.graph.copy()?;
         assemble(self.alloc, entries, universes, self.levels, graph)
     }
@@ -58,6 +59,7 @@ fn assemble(
 {
     let names = places_of(alloc, &entries)?;
     let signature = Signature::of(alloc, entries)?;
+    let universes = Universes::of(alloc, universes)?;
     let free = next_free(&signature, 0);
     Ok(Context {
         alloc,

@@ -26,7 +26,7 @@ returns-in_err-judged c =
     let new = new_name c.args.name c.args.self.now.entries (sym c.position.ensures ∙ c.in_default.is) in
     let fault = c.in_err-judged.field-0.0 in
     let f =
-    at_context (λ (t : Task). TypeFails c.args.asked.limit t fault) (record { entries = c.self.inside.signature; universes = c.self.inside.universes.items; levels = c.self.inside.levels }) c.args.self.now
+    at_context (λ (t : Task). TypeFails c.args.asked.limit t fault) (record { entries = c.self.inside.signature; universes = c.self.inside.universes; levels = c.self.inside.levels }) c.args.self.now
     c.new-locals.result c.args.ty.now BeAType c.new-locals.ensures c.self.view_is c.in_err-judged.ensures in
     rw (e.1, e.2) (AddFails.typing new (TypingFails.check f), refl)
 
@@ -43,7 +43,7 @@ store-requires c =
     let new = new_name c.args.name c.args.self.now.entries (sym c.position.ensures ∙ c.in_default.is) in
     let judged = c.in_ok-judged.judged in
     let j =
-    at_context (λ (t : Task). over.IsInferredType t c.args.asked.place judged) (record { entries = c.self.inside.signature; universes = c.self.inside.universes.items; levels = c.self.inside.levels }) c.args.self.now
+    at_context (λ (t : Task). over.IsInferredType t c.args.asked.place judged) (record { entries = c.self.inside.signature; universes = c.self.inside.universes; levels = c.self.inside.levels }) c.args.self.now
     c.new-locals.result c.args.ty.now BeAType c.new-locals.ensures c.self.view_is c.in_ok-judged.ensures in
     subst (λ (t : Core). IsNext c.args.self.now c.args.name (assumption c.self.inside.free c.args.name c.args.mark t judged.constraints) judged.levels) (sym c.in_ok-share.ensures.same)
     (next_assumption c.args.self.now x c.args.name c.self.inside.free new least c.args.ty.now c.requires c.args.asked judged j c.args.mark)
@@ -55,12 +55,12 @@ returns c =
     let new = new_name c.args.name c.args.self.now.entries (sym c.position.ensures ∙ c.in_default.is) in
     let judged = c.in_ok-judged.judged in
     let j =
-    at_context (λ (t : Task). over.IsInferredType t c.args.asked.place judged) (record { entries = c.self.inside.signature; universes = c.self.inside.universes.items; levels = c.self.inside.levels }) c.args.self.now
+    at_context (λ (t : Task). over.IsInferredType t c.args.asked.place judged) (record { entries = c.self.inside.signature; universes = c.self.inside.universes; levels = c.self.inside.levels }) c.args.self.now
     c.new-locals.result c.args.ty.now BeAType c.new-locals.ensures c.self.view_is c.in_ok-judged.ensures in
     assumes c.args.self.now x c.args.name c.self.inside.free new least c.args.ty.now c.requires c.args.asked judged j c.args.mark c.store.new.self c.store.result
     (subst (λ (t : Core). Stores c.args.self.now (assumption c.self.inside.free c.args.name c.args.mark t judged.constraints) judged.levels c.store.new.self c.store.result) c.in_ok-share.ensures.same c.store.ensures)
 
 pub infer_type-requires-clause-held : goal.infer_type-requires-clause-held
 infer_type-requires-clause-held c =
-    let here : Contents = record { entries = c.self.inside.signature; universes = c.self.inside.universes.items; levels = c.self.inside.levels } in
+    let here : Contents = record { entries = c.self.inside.signature; universes = c.self.inside.universes; levels = c.self.inside.levels } in
     subst (λ (l : List Local). AreHeld here.entries l here.levels) (sym c.new-locals.ensures) (are_held here c.self.invariant.0 [] (no_locals here c.self.invariant.0))

@@ -6,5 +6,5 @@ use Rattle.lego_context.proofs.context.Context.bodies.Goals as goal
 
 pub returns-clause-closed : goal.returns-clause-closed
 returns-clause-closed c =
-    let here : Contents = record { entries = c.self.inside.signature; universes = c.self.inside.universes.items; levels = c.self.inside.levels } in
+    let here : Contents = record { entries = c.self.inside.signature; universes = c.self.inside.universes; levels = c.self.inside.levels } in
     λ k t is. bodies_are_closed here c.self.invariant.0 k t (sym (ap (λ (f : ℕ → Option Core). f k) c.bodies.ensures.are) ∙ is)

@@ -15,8 +15,8 @@ keep_first-self-inside-requires-clause-kept c = c.self.invariant.1
 pub invariant_of-self : goal.invariant_of-self
 invariant_of-self c =
     let asked = subst (λ (z : Contents). CanBeCut z c.args.entries c.args.universes c.args.levels) (sym c.self.view_is) c.requires in
-    let old : Contents = record { entries = c.self.inside.signature; universes = c.self.inside.universes.items; levels = c.self.inside.levels } in (
-      cut_is_context old c.args.entries c.args.universes c.args.levels c.keep_first-self-inside.new.signature c.truncate.new.self.items asked c.self.invariant.0
-          c.keep_first-self-inside.ensures.entries c.truncate.ensures.items,
+    let old : Contents = record { entries = c.self.inside.signature; universes = c.self.inside.universes; levels = c.self.inside.levels } in (
+      cut_is_context old c.args.entries c.args.universes c.args.levels c.keep_first-self-inside.new.signature c.truncate.new.self asked c.self.invariant.0
+          c.keep_first-self-inside.ensures.entries c.truncate.ensures,
       c.keep_first-self-inside.ensures.kept,
     )

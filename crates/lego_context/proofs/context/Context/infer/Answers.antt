@@ -7,7 +7,7 @@ use Rattle.lego_context.proofs.context.Context.infer.Goals as goal
 
 pub infer-requires-clause-held : goal.infer-requires-clause-held
 infer-requires-clause-held c =
-    let here : Contents = record { entries = c.self.inside.signature; universes = c.self.inside.universes.items; levels = c.self.inside.levels } in
+    let here : Contents = record { entries = c.self.inside.signature; universes = c.self.inside.universes; levels = c.self.inside.levels } in
     let can = subst (λ (z : Contents). CanBeInferred z c.args.locals.now c.args.m.now) (sym c.self.view_is) c.requires in
     are_held here c.self.invariant.0 c.args.locals.now can.in_order
 
@@ -16,7 +16,7 @@ infer-requires-clause-term c = (subst (λ (z : Contents). CanBeInferred z c.args
 
 pub returns : goal.returns
 returns c =
-    let here : Contents = record { entries = c.self.inside.signature; universes = c.self.inside.universes.items; levels = c.self.inside.levels } in
+    let here : Contents = record { entries = c.self.inside.signature; universes = c.self.inside.universes; levels = c.self.inside.levels } in
     let can = subst (λ (z : Contents). CanBeInferred z c.args.locals.now c.args.m.now) (sym c.self.view_is) c.requires in
     subst (λ (z : Contents). Infers z c.args.locals.now c.args.m.now c.args.asked c.infer.result) c.self.view_is
     (infers here c.self.invariant.0 c.args.locals.now c.args.m.now c.args.asked can c.infer.result c.infer.ensures)

@@ -20,7 +20,7 @@ returns-in-Some c =
     let can = subst (λ (w : Option Core). CanTakeBody c.args.self.now c.args.body.now w) is c.requires in
     subst (λ (w : Option Core). Judges c.args.self.now c.args.body.now w c.args.asked c.check_written.result) (sym is)
     (judges_written c.args.self.now x c.args.body.now can.term written can.type c.args.asked c.check_written.result
-    (at_context (λ (t : Task). ChecksWrittenOver t written c.args.asked c.check_written.result) (record { entries = c.self.inside.signature; universes = c.self.inside.universes.items; levels = c.self.inside.levels }) c.args.self.now
+    (at_context (λ (t : Task). ChecksWrittenOver t written c.args.asked c.check_written.result) (record { entries = c.self.inside.signature; universes = c.self.inside.universes; levels = c.self.inside.levels }) c.args.self.now
     c.new-locals.result c.args.body.now (OfWrittenType written) c.new-locals.ensures c.self.view_is c.check_written.ensures))
 
 pub returns : goal.returns
@@ -30,15 +30,15 @@ returns c =
     let can = subst (λ (w : Option Core). CanTakeBody c.args.self.now c.args.body.now w) is c.requires in
     subst (λ (w : Option Core). Judges c.args.self.now c.args.body.now w c.args.asked c.infer.result) (sym is)
     (judges_by_rule c.args.self.now x c.args.body.now can.term c.args.asked c.infer.result
-    (at_context (λ (t : Task). InfersOver t c.args.asked c.infer.result) (record { entries = c.self.inside.signature; universes = c.self.inside.universes.items; levels = c.self.inside.levels }) c.args.self.now
+    (at_context (λ (t : Task). InfersOver t c.args.asked c.infer.result) (record { entries = c.self.inside.signature; universes = c.self.inside.universes; levels = c.self.inside.levels }) c.args.self.now
     c.new-locals.result c.args.body.now AnyType c.new-locals.ensures c.self.view_is c.infer.ensures))
 
 pub check_written-requires-clause-held : goal.check_written-requires-clause-held
 check_written-requires-clause-held c =
-    let here : Contents = record { entries = c.self.inside.signature; universes = c.self.inside.universes.items; levels = c.self.inside.levels } in
+    let here : Contents = record { entries = c.self.inside.signature; universes = c.self.inside.universes; levels = c.self.inside.levels } in
     subst (λ (l : List Local). AreHeld here.entries l here.levels) (sym c.new-locals.ensures) (are_held here c.self.invariant.0 [] (no_locals here c.self.invariant.0))
 
 pub infer-requires-clause-held : goal.infer-requires-clause-held
 infer-requires-clause-held c =
-    let here : Contents = record { entries = c.self.inside.signature; universes = c.self.inside.universes.items; levels = c.self.inside.levels } in
+    let here : Contents = record { entries = c.self.inside.signature; universes = c.self.inside.universes; levels = c.self.inside.levels } in
     subst (λ (l : List Local). AreHeld here.entries l here.levels) (sym c.new-locals.ensures) (are_held here c.self.invariant.0 [] (no_locals here c.self.invariant.0))

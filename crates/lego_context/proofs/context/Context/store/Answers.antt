@@ -25,7 +25,7 @@ returns-in-Err c =
     let added = c.in_ok-admit.ensures.added ∙ ap (λ (k : List Constraint). c.self.inside.graph ++ k) c.items.ensures in
     let within = subst CanBeSatisfiedWithin added c.in_ok-admit.ensures.within in (
       subst (λ (z : Contents). StoreFails z.entries c.args.entry.constraints fault) c.self.view_is (room_fails c.self.inside.signature c.self.inside.graph c.args.entry.constraints fault c.self.invariant.1.graph within c.in-Err.ensures.refused),
-      same_view c.self.inside.signature c.enter.new.signature c.self.inside.universes.items c.self.inside.levels c.args.self.now c.in-Err.ensures.kept c.self.view_is,
+      same_view c.self.inside.signature c.enter.new.signature c.self.inside.universes c.self.inside.levels c.args.self.now c.in-Err.ensures.kept c.self.view_is,
     )
 
 pub next_free-self-inside-requires-clause-below : goal.next_free-self-inside-requires-clause-below
@@ -33,7 +33,7 @@ next_free-self-inside-requires-clause-below c = taken-push c.self.inside.signatu
 
 pub invariant_of-self-2 : goal.invariant_of-self-2
 invariant_of-self-2 c =
-    let here : Contents = record { entries = c.self.inside.signature; universes = c.self.inside.universes.items; levels = c.self.inside.levels } in
+    let here : Contents = record { entries = c.self.inside.signature; universes = c.self.inside.universes; levels = c.self.inside.levels } in
     let next = subst (λ (z : Contents). IsNext z c.args.name c.args.entry c.args.levels) (sym c.self.view_is) c.requires in
     let added = c.in_ok-admit.ensures.added ∙ ap (λ (k : List Constraint). c.self.inside.graph ++ k) c.items.ensures in
     stored here c.self.invariant.0 c.args.name c.args.entry c.args.levels next c.self.inside.graph c.enter.new.signature c.enter.new.names.entries c.admit.new.graph c.next_free-self-inside.result
