@@ -33,24 +33,51 @@ impl fmt::Display for Added {
     }
 }
 
+/// A workload of contexts.
+#[derive(Debug, Clone, Copy, PartialEq, Eq)]
+pub(crate) enum Workload {
+    Definitions,
+    Universes(Order),
+    Refusals,
+    Tree,
+    Telescope,
+    Doubling,
+}
+
 /// The order in which chained universes come.
 #[derive(Debug, Clone, Copy, PartialEq, Eq)]
-enum Order {
+pub(crate) enum Order {
     Upwards,
     Downwards,
 }
 
-/// Runs the workload of contexts of this name.
-pub fn run_contexts(alloc: Global, name: &str, size: u32) -> Result<Added, BenchFault> {
+/// The workload of contexts of this name.
+pub(crate) fn named(name: &str) -> Option<Workload> {
     match name {
-        "definitions" => definitions(alloc, size),
-        "universes" => universes(alloc, size, Order::Upwards),
-        "downwards" => universes(alloc, size, Order::Downwards),
-        "tree" => tree(alloc, size),
-        "telescope" => telescope(alloc, size),
-        "refusals" => refusals(alloc, size),
-        "doubling" => doubling(alloc, size),
-        _ => Err(BenchFault::Usage),
+        "definitions" => Some(Workload::Definitions),
+        "universes" => Some(Workload::Universes(Order::Upwards)),
+        "downwards" => Some(Workload::Universes(Order::Downwards)),
+        "refusals" => Some(Workload::Refusals),
+        "tree" => Some(Workload::Tree),
+        "telescope" => Some(Workload::Telescope),
+        "doubling" => Some(Workload::Doubling),
+        _ => None,
+    }
+}
+
+/// Runs a workload of contexts.
+pub(crate) fn run_contexts(
+    alloc: Global,
+    workload: Workload,
+    size: u32,
+) -> Result<Added, BenchFault> {
+    match workload {
+        Workload::Definitions => definitions(alloc, size),
+        Workload::Universes(order) => universes(alloc, size, order),
+        Workload::Refusals => refusals(alloc, size),
+        Workload::Tree => tree(alloc, size),
+        Workload::Telescope => telescope(alloc, size),
+        Workload::Doubling => doubling(alloc, size),
     }
 }
 

@@ -3,7 +3,7 @@ ghost use Rattle.std.specs.Prelude.{IfOk};
 ghost use Rattle.lego_term.specs.BodyMap.{AreClosed};
 
 use crate::comparison;
-use crate::contexts::{Added, run_contexts};
+use crate::contexts::{self, Added, run_contexts};
 use crate::fault::BenchFault;
 use crate::levels::{Held, run_levels};
 use lego_reduce::{ReduceFault, head, normal};
@@ -87,17 +87,13 @@ impl fmt::Display for Outcome {
 
 /// Runs the workload of this name.
 pub fn run_workload(alloc: Global, name: &str, size: u32) -> Result<Outcome, BenchFault> {
+    if let Some(workload) = contexts::named(name) {
+        return Ok(Outcome::Contexts(run_contexts(alloc, workload, size)?));
+    }
     match name {
         "chain" | "back" | "mixed" | "layers" | "cycles" | "again" | "ring" | "both" => {
             Ok(Outcome::Levels(run_levels(alloc, name, size)?))
         }
-        "definitions"
-        | "universes"
-        | "downwards"
-        | "tree"
-        | "telescope"
-        | "refusals"
-        | "doubling" => { Ok(Outcome::Contexts(run_contexts(alloc, name, size)?)) }
         _ => Ok(Outcome::Terms(run_terms(alloc, name, size)?)),
     }
 }
