@@ -9,6 +9,7 @@ pub mod FreeNames
 pub mod ReadLocals
 pub mod ReadForms
 pub mod Renumbered
+pub mod NoHoles
 pub mod ReadTerms
 pub mod CountedLemmas
 pub mod PrintedNames
