@@ -4,6 +4,7 @@ pub mod Texts
 pub mod Headings
 pub mod Entries
 pub mod EntryLines
+pub mod Goals
 pub mod ReadBack
 pub mod Refusals
 pub mod Developments

@@ -6,6 +6,7 @@ mod called;
 mod development;
 mod entries;
 mod front;
+mod goals;
 mod heading;
 mod hole;
 mod item;
@@ -27,6 +28,7 @@ mod used;
 pub use called::Called;
 pub use development::development_text;
 pub use entries::Entries;
+pub use goals::{Goal, Hypothesis, goal_lines};
 pub use heading::Heading;
 pub use item::Item;
 pub use laws::{
