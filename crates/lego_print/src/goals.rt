@@ -85,10 +85,7 @@ fn hypothesis_lines<E: Entries>(
 }
 
 /// The line of a goal: its number, and its conclusion under its hypotheses.
-fn goal_line<E: Entries>(
-    printer: &Printer<'_, E>,
-    goal: Goal<'_>,
-) -> Result<Vec<u8>, AllocError>
+fn goal_line<E: Entries>(printer: &Printer<'_, E>, goal: Goal<'_>) -> Result<Vec<u8>, AllocError>
     ensures { IfOk result (λ text. text.items ≡ goal_line printer.now.levels (outer_scope printer.now.names.now (E.called printer.now.entries.now) (E.in_scope printer.now.entries.now)) goal.entry) }
 {
     let mut page = Page::new(printer.alloc);
