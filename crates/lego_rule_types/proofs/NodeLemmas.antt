@@ -83,35 +83,38 @@ univ_count xs l = refl
 
 pub app_count : (xs : List ℕ) (k : Mark) (m n : Core) → nodes_in xs (App k m n) ≡ nodes_in xs m + nodes_in xs n
 unfolding nodes_in
-app_count xs k m n = refl
+app_count xs k m n = omega arith
 
 pub fst_count : (xs : List ℕ) (m : Core) → nodes_in xs (Fst m) ≡ nodes_in xs m
 unfolding nodes_in
-fst_count xs m = refl
+fst_count xs m = omega arith
 
 pub snd_count : (xs : List ℕ) (m : Core) → nodes_in xs (Snd m) ≡ nodes_in xs m
 unfolding nodes_in
-snd_count xs m = refl
+snd_count xs m = omega arith
 
 pub pi_count : (xs : List ℕ) (x : Binder) (a b : Core) → nodes_in xs (Pi x a b) ≡ 1 + (nodes_in xs a + nodes_in (xs ++ 0 ∷ []) b)
 unfolding nodes_in
-pi_count xs x a b = ap (λ r. 1 + (nodes_in xs a + r)) (sym (nodes_under xs 0 b))
+pi_count xs x a b = let e = nodes_under xs 0 b in omega (arith, e)
 
 pub lam_count : (xs : List ℕ) (x : Binder) (a b : Core) → nodes_in xs (Lam x a b) ≡ nodes_in xs a + nodes_in (xs ++ 0 ∷ []) b
 unfolding nodes_in
-lam_count xs x a b = ap (λ r. nodes_in xs a + r) (sym (nodes_under xs 0 b))
+lam_count xs x a b = let e = nodes_under xs 0 b in omega (arith, e)
 
 pub sigma_count : (xs : List ℕ) (x : Binder) (a b : Core) → nodes_in xs (Sigma x a b) ≡ 1 + (nodes_in xs a + nodes_in (xs ++ 0 ∷ []) b)
 unfolding nodes_in
-sigma_count xs x a b = ap (λ r. 1 + (nodes_in xs a + r)) (sym (nodes_under xs 0 b))
+sigma_count xs x a b = let e = nodes_under xs 0 b in omega (arith, e)
 
 pub pair_count : (xs : List ℕ) (x : Binder) (a b m n : Core) → nodes_in xs (Pair x a b m n) ≡ (nodes_in xs a + nodes_in (xs ++ 0 ∷ []) b) + (nodes_in xs m + nodes_in xs n)
 unfolding nodes_in
-pair_count xs x a b m n = ap (λ r. (nodes_in xs a + r) + (nodes_in xs m + nodes_in xs n)) (sym (nodes_under xs 0 b))
+pair_count xs x a b m n = let e = nodes_under xs 0 b in omega (arith, e)
 
 pub let_count : (xs : List ℕ) (x : Binder) (v : ℕ) (m n : Core) → v ≡ nodes_in xs m → nodes_in xs (Let x m n) ≡ nodes_in xs m + nodes_in (xs ++ v ∷ []) n
 unfolding nodes_in
-let_count xs x v m n e = ap (λ k. nodes_in xs m + count node_counting (bound k (scope_of xs)) n) (sym e) ∙ ap (λ r. nodes_in xs m + r) (sym (nodes_under xs v n))
+let_count xs x v m n e =
+    let f = nodes_under xs v n in
+    let g : count node_counting (bound v (scope_of xs)) n ≡ count node_counting (bound (nodes_in xs m) (scope_of xs)) n = ap (λ k. count node_counting (bound k (scope_of xs)) n) e in
+    omega (arith, f, g)
 
 pub value_count : (xs : List ℕ) (x : Binder) (m n : Core) → nodes_in xs m ≤ nodes_in xs (Let x m n)
 unfolding nodes_in
@@ -152,3 +155,6 @@ pub out_of_scope : (xs : List ℕ) (i : ℕ) → length xs ≤ i → scope_of xs
 out_of_scope [] i h = refl
 out_of_scope (x ∷ xs) i h =
     ap (λ b. if b then x else scope_of xs i) (later i (length xs) h) ∙ out_of_scope xs i (omega arith)
+
+pub named_count : (n n' most : ℕ) (r : Result ℕ Uncounted) → n ≡ n' → IsCounted n most r → IsCounted n' most r
+named_count n n' most r e c = subst (λ z. IsCounted z most r) e c

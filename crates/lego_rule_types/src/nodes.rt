@@ -3,7 +3,7 @@
 ghost use Rattle.std.specs.Prelude.{◌≡◌, ◌+◌, ◌≤◌, ◌++◌, ◌∷◌, [], OnOk, IfOk, IfErr};
 ghost use Rattle.lego_laws.specs.RuleTypes.{nodes as nodes_of};
 ghost use Rattle.lego_rule_types.specs.private.Counting.{Counts, IsCounted, IsBehind, scope_of, nodes_in};
-ghost use Rattle.lego_inference.specs.declared.fault.TypeFault.TheVariants as fault;
+ghost use Rattle.lego_inference.specs.declared.fault.TypeFault.TheVariants as why;
 ghost use Rattle.lego_rule_types.specs.declared.nodes.Uncounted.TheVariants.{Memory};
 
 use lego_inference::{Counted, TypeFault};
@@ -143,7 +143,7 @@ pub(crate) fn counted_behind(alloc: Global, t: &Term, first: u32) -> Result<u32,
 pub(crate) fn behind(alloc: Global, t: &Term, first: u32) -> Result<u32, TypeFault>
     requires { first + nodes_of t.now ≤ 1048576 }
     ensures ok { IfOk result (λ next. next ≡ first + nodes_of t.now) }
-    ensures err { IfErr result (λ fault. fault ≡ fault.Memory) }
+    ensures err { IfErr result (λ fault. fault ≡ why.Memory) }
 {
     match counted_behind(alloc, t, first) {
         Ok(next) => Ok(next),
