@@ -1,3 +1,5 @@
 pub mod NodeLemmas
 pub mod ScopeLemmas
 pub mod FindLemmas
+pub mod PlacedLemmas
+pub mod CallLemmas
