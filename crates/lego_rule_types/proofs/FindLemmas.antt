@@ -9,7 +9,6 @@ use Rattle.lego_term.specs.Sequences.{HeadForm}
 use Rattle.lego_laws.specs.Entries.{Entry, entry_of, core_bodies}
 use Rattle.lego_laws.specs.RuleTypes.{RuleType, nodes}
 use Rattle.lego_laws.specs.Places.{AFunction, APair, Fulfils, Site, behind, under, RuleTypeAt}
-use Rattle.lego_laws.proofs.lemmas.principal.RuleTypesUnique.{one_head, one_rule_type}
 use Rattle.lego_inference.specs.declared.fault.TypeFault.{TypeFault}
 use Rattle.lego_inference.specs.declared.fault.TypeFault.TheVariants.{Memory}
 use Rattle.lego_inference.specs.declared.locals.Local.{Local}
@@ -20,7 +19,8 @@ use Rattle.lego_rule_types.specs.declared.head.Former.{Former}
 use Rattle.lego_rule_types.specs.Used.{IsUsed, IsHeadUsed}
 use Rattle.lego_rule_types.specs.Failures.{Stops}
 use Rattle.lego_rule_types.specs.Calls.{HasNoRuleType}
-use Rattle.lego_rule_types.specs.private.Finding.{Finds, HeadStops, HasHead, FindsHead, FindsFormer, IsIn, product_tree, sigma_tree, IsSortOfProduct}
+use Rattle.lego_rule_types.proofs.AgreeLemmas.{all_functions, all_pairs}
+use Rattle.lego_rule_types.specs.private.Finding.{Finds, HeadStops, HasHead, FindsHead, FindsFormer, HasNoFormer, IsIn, product_tree, sigma_tree, IsSortOfProduct}
 
 -- the same site, by other names for its locals and its number
 pub at_site : (P : Site → Type 0) {l l' : List Local} {n n' : ℕ} → l ≡ l' → n ≡ n' → P (site_of l n) → P (site_of l' n')
@@ -102,40 +102,33 @@ module _ (es : List Entry) (limit : ℕ) where
       ⊎_elim (λ (p : (h ≡ Prop) × (ty ≡ Prop)). subst (RuleTypeAt es s (Pi x a b)) (sym p.1) (RuleType.pi_prop has.rule (subst (HeadForm (core_bodies es) has.ty) p.0 has.head)))
       (λ (p : (h ≡ Prop → ⊥) × (ty ≡ Univ (variable_level s.first))). subst (RuleTypeAt es s (Pi x a b)) (sym p.1) (RuleType.pi_type has.rule has.head p.0)) is
 
-  pub product_none : (s : Site) (x : Binder) (a b : Core) → HasNoRuleType es (under x a (behind 1 s)) b → HasNoRuleType es s (Pi x a b)
-  product_none s x a b none ty (RuleType.pi_prop r p) = none _ r
-  product_none s x a b none ty (RuleType.pi_type r p o) = none _ r
+  pub product_none : (s : Site) (x : Binder) (a b : Core) → HasNoRuleType es (a ∷ s.types) b → HasNoRuleType es s.types (Pi x a b)
+  product_none s x a b none w n ty (RuleType.pi_prop r p) = none w _ _ r
+  product_none s x a b none w n ty (RuleType.pi_type r p o) = none w _ _ r
 
-  pub function_none : (s : Site) (x : Binder) (a b : Core) → HasNoRuleType es (under x a s) b → HasNoRuleType es s (Lam x a b)
-  function_none s x a b none ty (RuleType.lambda r) = none _ r
+  pub function_none : (s : Site) (x : Binder) (a b : Core) → HasNoRuleType es (a ∷ s.types) b → HasNoRuleType es s.types (Lam x a b)
+  function_none s x a b none w n ty (RuleType.lambda r) = none w _ _ r
 
-  pub applied_none : (s : Site) (k : Mark) (f m : Core) → HasNoRuleType es s f → HasNoRuleType es s (App k f m)
-  applied_none s k f m none ty (RuleType.application r p) = none _ r
+  pub applied_none : (s : Site) (k : Mark) (f m : Core) → HasNoRuleType es s.types f → HasNoRuleType es s.types (App k f m)
+  applied_none s k f m none w n ty (RuleType.application r p) = none w _ _ r
 
-  pub first_none : (s : Site) (m : Core) → ((h : Core) → HasHead es s m h → Fulfils APair h → ⊥) → HasNoRuleType es s (Fst m)
-  first_none s m none ty (RuleType.first r p) = none _ (record { ty = _; rule = r; head = p }) Fulfils.a_pair
+  pub first_none : (s : Site) (m : Core) → HasNoFormer APair es s.types m → HasNoRuleType es s.types (Fst m)
+  first_none s m none w n ty (RuleType.first r p) = none w _ _ _ r p Fulfils.a_pair
 
-  pub second_none : (s : Site) (m : Core) → ((h : Core) → HasHead es s m h → Fulfils APair h → ⊥) → HasNoRuleType es s (Snd m)
-  second_none s m none ty (RuleType.second r p) = none _ (record { ty = _; rule = r; head = p }) Fulfils.a_pair
+  pub second_none : (s : Site) (m : Core) → HasNoFormer APair es s.types m → HasNoRuleType es s.types (Snd m)
+  second_none s m none w n ty (RuleType.second r p) = none w _ _ _ r p Fulfils.a_pair
 
-  pub local_none : (s : Site) (x : Binder) (m b : Core) → HasNoRuleType es (behind (nodes m) s) (instantiate b m) → HasNoRuleType es s (Let x m b)
-  local_none s x m b none ty (RuleType.local r) = none _ r
+  pub local_none : (s : Site) (x : Binder) (m b : Core) → HasNoRuleType es s.types (instantiate b m) → HasNoRuleType es s.types (Let x m b)
+  local_none s x m b none w n ty (RuleType.local r) = none w _ _ r
 
-  -- a term has one head form of a rule type
-  same_head : (s : Site) (m h h' : Core) → HasHead es s m h → HasHead es s m h' → h ≡ h'
-  same_head s m h h' p q = one_head (one_rule_type p.rule q.rule) p.head q.head
+  pub unfit_applied : (s : Site) (k : Mark) (f m h : Core) → HasHead es s f h → (Fulfils AFunction h → ⊥) → HasNoRuleType es s.types (App k f m)
+  unfit_applied s k f m h has unfit w n ty (RuleType.application r p) = unfit (all_functions has.rule has.head r p Fulfils.a_function)
 
-  pub unfit_applied : (s : Site) (k : Mark) (f m h : Core) → HasHead es s f h → (Fulfils AFunction h → ⊥) → HasNoRuleType es s (App k f m)
-  unfit_applied s k f m h has unfit ty (RuleType.application r p) = unfit (subst (Fulfils AFunction) (sym (same_head s f h _ has (record { ty = _; rule = r; head = p }))) Fulfils.a_function)
-
-  pub unfit_pair : (s : Site) (m h : Core) → HasHead es s m h → (Fulfils APair h → ⊥) → (h' : Core) → HasHead es s m h' → Fulfils APair h' → ⊥
-  unfit_pair s m h has unfit h' has' fit = unfit (subst (Fulfils APair) (sym (same_head s m h h' has has')) fit)
-
-  pub none_pair : (s : Site) (m : Core) → HasNoRuleType es s m → (h : Core) → HasHead es s m h → Fulfils APair h → ⊥
-  none_pair s m none h has fit = none has.ty has.rule
+  pub none_pair : (s : Site) (m : Core) → HasNoRuleType es s.types m → HasNoFormer APair es s.types m
+  none_pair s m none w n a h r p fit = none w n a r
 
   -- what is found in the head form of a pair's rule type
   pub former_found : (s : Site) (m h : Core) (r : Result (Option Former) TypeFault) → HasHead es s m h → IsIn sigma_tree APair h r → FindsFormer sigma_tree APair es limit s m r
   former_found s m h (Ok (Some found)) has e = subst (HasHead es s m) e has
-  former_found s m h (Ok None) has unfit = unfit_pair s m h has unfit
+  former_found s m h (Ok None) has unfit = λ w n a h' r p fit. unfit (all_pairs has.rule has.head r p fit)
   former_found s m h (Err fault) has e = HeadStops.part (memory_stops fault e)

@@ -19,11 +19,11 @@ pub record IsRuleType (es : List Entry) (s : Site) (m : Core) (judged : Judged) 
   pub count : judged.levels ≡ s.first + nodes m
   pub within : judged.levels ≤ 1048576
 
--- the term has no rule type
-abbrev pub HasNoRuleType : List Entry → Site → Core → Type 0
-HasNoRuleType es s m = (a : Core) → RuleTypeAt es s m a → ⊥
+-- the term has no rule type below these local types, whatever the numbers of its nodes
+abbrev pub HasNoRuleType : List Entry → List Core → Core → Type 0
+HasNoRuleType es types m = (w : ℕ → ℕ) (n : ℕ) (a : Core) → RuleType es w types n m a → ⊥
 
 abbrev pub FindsRuleType : List Entry → Site → Core → At → Result (Option Judged) TypeFault → Type 0
 FindsRuleType es s m asked (Ok (Some judged)) = IsRuleType es s m judged
-FindsRuleType es s m asked (Ok None) = HasNoRuleType es s m
+FindsRuleType es s m asked (Ok None) = HasNoRuleType es s.types m
 FindsRuleType es s m asked (Err fault) = RuleTypeFails es asked.limit s m fault

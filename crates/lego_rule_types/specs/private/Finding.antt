@@ -8,7 +8,7 @@ use Rattle.lego_term.specs.Parts.{IsTooLarge}
 use Rattle.lego_term.specs.Sequences.{HeadForm, head_step, after, MoreThan}
 use Rattle.lego_laws.specs.Entries.{Entry, core_bodies}
 use Rattle.lego_laws.specs.Places.{Want, Fulfils, Site, RuleTypeAt}
-use Rattle.lego_laws.specs.RuleTypes.{nodes}
+use Rattle.lego_laws.specs.RuleTypes.{RuleType, nodes}
 use Rattle.lego_inference.specs.declared.fault.TypeFault.{TypeFault}
 use Rattle.lego_inference.specs.declared.fault.TypeFault.TheVariants.{Budget, TooLarge, Memory}
 use Rattle.lego_inference.specs.declared.locals.Local.{Local}
@@ -31,7 +31,7 @@ site_under x a locals first = site_of (record { binder = x; ty = a } ∷ locals)
 
 abbrev pub Finds : List Entry → ℕ → Site → Core → Result (Option Core) TypeFault → Type 0
 Finds es limit s m (Ok (Some a)) = RuleTypeAt es s m a
-Finds es limit s m (Ok None) = HasNoRuleType es s m
+Finds es limit s m (Ok None) = HasNoRuleType es s.types m
 Finds es limit s m (Err fault) = Stops es limit s m fault
 
 -- the search for the head form of the rule type stops
@@ -41,7 +41,7 @@ pub data HeadStops (es : List Entry) (limit : ℕ) (s : Site) (m : Core) : TypeF
   passed : {a u : Core} {size depth : ℕ} (i : ℕ)
       → RuleTypeAt es s m a → i ≤ limit → after (head_step (core_bodies es)) i a ≡ Some u → IsTooLarge u size depth → HeadStops es limit s m (TooLarge size depth)
 
--- a rule type of the term and its head form, of which this holds
+-- the rule type of the term has this head form
 pub record HasHead (es : List Entry) (s : Site) (m : Core) (h : Core) : Type 0 where
   pub ty : Core
   pub rule : RuleTypeAt es s m ty
@@ -49,7 +49,7 @@ pub record HasHead (es : List Entry) (s : Site) (m : Core) (h : Core) : Type 0 w
 
 abbrev pub FindsHead : List Entry → ℕ → Site → Core → Result (Option Core) TypeFault → Type 0
 FindsHead es limit s m (Ok (Some h)) = HasHead es s m h
-FindsHead es limit s m (Ok None) = HasNoRuleType es s m
+FindsHead es limit s m (Ok None) = HasNoRuleType es s.types m
 FindsHead es limit s m (Err fault) = HeadStops es limit s m fault
 
 abbrev pub product_tree : Former → Core
@@ -64,10 +64,15 @@ IsIn tree w h (Ok (Some found)) = h ≡ tree found
 IsIn tree w h (Ok None) = Fulfils w h → ⊥
 IsIn tree w h (Err fault) = fault ≡ Memory
 
+-- no rule type of the term has a head form that is as wanted
+abbrev pub HasNoFormer : Want → List Entry → List Core → Core → Type 0
+HasNoFormer w es types m =
+    (v : ℕ → ℕ) (n : ℕ) (a h : Core) → RuleType es v types n m a → HeadForm (core_bodies es) a h → Fulfils w h → ⊥
+
 -- the head form of the rule type is found, or no rule type has one that is as wanted
 abbrev pub FindsFormer : (Former → Core) → Want → List Entry → ℕ → Site → Core → Result (Option Former) TypeFault → Type 0
 FindsFormer tree w es limit s m (Ok (Some found)) = HasHead es s m (tree found)
-FindsFormer tree w es limit s m (Ok None) = (h : Core) → HasHead es s m h → Fulfils w h → ⊥
+FindsFormer tree w es limit s m (Ok None) = HasNoFormer w es s.types m
 FindsFormer tree w es limit s m (Err fault) = HeadStops es limit s m fault
 
 -- the rule type of a product whose body's rule type has this head form
