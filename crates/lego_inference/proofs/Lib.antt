@@ -16,6 +16,8 @@ pub mod LocalLemmas
 pub mod SignatureLemmas
 pub mod SignatureCuts
 pub mod SignatureLists
+pub mod SignatureOrders
+pub mod SignatureBodies
 pub mod JudgeLemmas
 pub mod ArmLemmas
 pub mod SizeLemmas

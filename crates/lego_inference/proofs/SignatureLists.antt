@@ -9,7 +9,7 @@ use Rattle.lego_inference.specs.declared.entry.Entry.{Entry as Item}
 use Rattle.lego_inference.specs.Entries.{laws_entries, numbers_of, with_body, AreClosedEntries}
 use Rattle.lego_inference.proofs.SignatureLemmas.{numbers_push, bodies_push}
 
-number_at : (P : ℕ → Type 0) (es : List Item) (i : ℕ) (d : Item) → AllByRecursion P (numbers_of es) → i < length es → P (get_or es i d).number
+pub number_at : (P : ℕ → Type 0) (es : List Item) (i : ℕ) (d : Item) → AllByRecursion P (numbers_of es) → i < length es → P (get_or es i d).number
 number_at P [] i d h l = absurd (omega (arith, l))
 number_at P (x ∷ es) zero d h l = h.0
 number_at P (x ∷ es) (suc i) d h l = number_at P es i d h.1 (omega (arith, l))

@@ -1,15 +1,17 @@
 //! Signatures: what the constants of terms stand for.
-ghost use Rattle.std.specs.Prelude.{◌≡◌, ◌<◌, ◌≤◌, ◌++◌, [], ◌∷◌, length, nat_eq, position, slice_get, option_map, Contains, IfOk, OnOk, OnErr, IfSome, IfNone};
+ghost use Rattle.std.specs.Prelude.{◌≡◌, ◌+◌, ◌<◌, ◌≤◌, ◌++◌, [], ◌∷◌, length, nat_eq, position, slice_get, option_map, Contains, IfOk, OnOk, OnErr, IfSome, IfNone};
+ghost use Rattle.std.specs.List.{swap};
 ghost use Rattle.std.specs.Option.{option_copied, option_to_list};
 ghost use Rattle.lego_term.specs.Trees.{loose};
 ghost use Rattle.lego_term.specs.BodyMap.{bodies_in};
 ghost use Rattle.lego_laws.specs.Entries.{core_bodies, entry_of};
 ghost use Rattle.lego_level.specs.Graphs.{Differ};
-ghost use Rattle.lego_inference.specs.Entries.{laws_entry, laws_entries, numbers_of, AreClosedEntries, with_body};
+ghost use Rattle.lego_inference.specs.Entries.{laws_entry, laws_entries, numbers_of, AreClosedEntries, with_body, filled_at};
 
-use crate::entry::Entry;
+use crate::entry::{Entry, EntryKind};
 use indexmap::IndexSet;
-use lego_term::Bodies;
+use lego_level::Constraint;
+use lego_term::{Bodies, List, Term};
 use std::alloc::{AllocError, Global};
 use std::marker::Model;
 
@@ -160,6 +162,39 @@ impl Signature {
         Some(entry)
     }
 
+    /// The entry at a place and the one behind it change places.
+    pub fn exchange(&mut self, at: usize)
+        requires { at + 1 < length self.old }
+        ensures { self.new ≡ swap self.old at (at + 1) }
+    {
+        self.entries.swap(at, at + 1);
+        self.numbers.swap_indices(at, at + 1);
+    }
+
+    /// Gives the entry at a place a body, as a filled hole, and puts constraints behind its own.
+    pub fn solve(
+        &mut self,
+        at: usize,
+        body: &Term,
+        more: &[Constraint],
+    ) -> Result<(), AllocError>
+        requires within { at < length self.old }
+        requires closed { loose body.now ≡ 0 }
+        ensures ok { OnOk result (self.new ≡ filled_at self.old at body.now more.now) }
+        ensures err { OnErr result (self.new ≡ self.old) }
+    {
+        let entry = &self.entries[at];
+        let number = entry.number;
+        let constraints = joined(self.alloc, entry.constraints.items(), more)?;
+        let shared = body.share()?;
+        self.bodies.put(number, body)?;
+        let entry = &mut self.entries[at];
+        entry.kind = EntryKind::Filled;
+        entry.body = Some(shared);
+        entry.constraints = List::of(constraints);
+        Ok(())
+    }
+
     /// The allocator. No entry has a loose variable.
     pub(crate) fn alloc(&self) -> Global
         ensures { AreClosedEntries (laws_entries self.now) }
@@ -177,4 +212,17 @@ fn keep_body(bodies: &mut Bodies, entry: &Entry) -> Result<(), AllocError>
         Some(body) => bodies.put(entry.number, body),
         None => Ok(()),
     }
+}
+
+/// The constraints of both lists.
+fn joined(
+    alloc: Global,
+    first: &[Constraint],
+    second: &[Constraint],
+) -> Result<Vec<Constraint>, AllocError>
+    ensures { IfOk result (λ all. all.items ≡ first.now ++ second.now) }
+{
+    let mut all = Vec::from_slice(alloc, first)?;
+    all.extend_from_slice(second)?;
+    Ok(all)
 }
