@@ -84,7 +84,7 @@ none_forced cs c needed within forced =
     let over = forced.over in
     omega (arith, least, small, value, over)
 
-universes_below : (n : ℕ) (us : List Universe) → universes_bound us ≤ n → All (λ (u : Universe). u.variable < n) us
+pub universes_below : (n : ℕ) (us : List Universe) → universes_bound us ≤ n → All (λ (u : Universe). u.variable < n) us
 universes_below n us h = All-from_recursion (λ (u : Universe). u.variable < n) us (by_recursion us h)
   where
     by_recursion : (us : List Universe) → universes_bound us ≤ n → AllByRecursion (λ (u : Universe). u.variable < n) us
