@@ -5,8 +5,10 @@
 mod admission;
 mod context;
 mod flags;
+mod hints;
 mod numbers;
 mod universes;
 mod variables;
 
 pub use context::{Context, Settled};
+pub use hints::{Hint, Hints};

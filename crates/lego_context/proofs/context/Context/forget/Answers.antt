@@ -20,7 +20,7 @@ invariant_of-self c =
     let asked = subst (λ (z : Contents). CanBeForgotten z c.args.at) (sym c.self.view_is) c.requires in
     let top = c.entries_bound-bound.ensures ∙ ap (λ (es : List Item). entries_bound (laws_entries es)) c.entries-entries.ensures in
     let used = c.keep_used.ensures ∙ ap (λ (es : List Item). universes_used es c.self.inside.universes) c.entries-entries.ensures in (
-      front_is_context old c.args.at c.keep_first-self-inside.new.signature c.keep_used.new.universes c.entries_bound-bound.result asked c.self.invariant.0
+      front_is_context old c.args.at c.keep_first-self-inside.new.signature c.keep_used.new.self c.entries_bound-bound.result asked c.self.invariant.0
           c.keep_first-self-inside.ensures.entries used top,
       c.keep_first-self-inside.ensures.kept,
     )

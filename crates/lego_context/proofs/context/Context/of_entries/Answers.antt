@@ -12,5 +12,5 @@ assemble-requires-clause-context c =
     let entries = c.entries_bound.ensures ∙ ap (λ (es : List Item). entries_bound (laws_entries es)) c.deref.ensures.value in
     let universes = c.universes_bound.ensures ∙ ap universes_bound c.deref-2.ensures.value in
     let levels = c.max-bound.ensures ∙ ap₂ (λ x y. max x y) entries universes in
-    subst (λ n. IsContext (record { entries = c.args.entries.items; universes = c.args.universes; levels = n })) (sym levels)
-    (lists_are_context c.args.entries.items c.args.universes c.requires)
+    subst (λ n. IsContext (record { entries = c.args.entries.items; universes = c.args.universes.items; levels = n })) (sym levels)
+    (lists_are_context c.args.entries.items c.args.universes.items c.requires)
