@@ -18,4 +18,5 @@ pub mod SettleLemmas
 pub mod TypedLemmas
 pub mod VariableLemmas
 pub mod FlagLemmas
+pub mod HintLemmas
 pub mod ListLemmas

@@ -4,3 +4,4 @@ pub mod Adding
 pub mod Cuts
 pub mod Lists
 pub mod Flags
+pub mod HintCode

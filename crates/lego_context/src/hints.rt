@@ -24,9 +24,13 @@ pub struct Hints {
 impl Model for Hints {
     ghost use Rattle.std.specs.Ordering.{nat_cmp};
     ghost use Rattle.std.specs.FinMap as map;
+    ghost use Rattle.std.specs.Coded.{coded_ℕ};
     ghost use Rattle.lego_context.specs.declared.hints.Hint.{Hint};
+    ghost use Rattle.lego_context.specs.private.HintCode.{hint_code};
 
     ghost Value = { map.FinMap nat_cmp Hint };
+
+    ghost coded = { map.code coded_ℕ hint_code };
 
     ghost view = { λ h. map.from_entries h.held.entries };
 }
@@ -42,19 +46,14 @@ impl Hints {
     }
 
     /// Keeps the hint of a hole, in place of the one that it had.
-    pub fn hint(
-        &mut self,
-        hole: u32,
-        name: Option<u32>,
-        hypotheses: u32,
-    ) -> Result<(), AllocError>
+    pub fn hint(&mut self, hole: u32, name: Option<u32>, hypotheses: u32) -> Result<(), AllocError>
         ensures ok { OnOk result (self.new ≡ map.insert self.old hole (record { name = name; hypotheses = hypotheses })) }
         ensures err { OnErr result (self.new ≡ self.old) }
     {
-        match self.held.insert(hole, Hint { name, hypotheses }) {
-            Ok(_) => Ok(()),
-            Err(_) => Err(AllocError),
-        }
+        let Ok(_) = self.held.insert(hole, Hint { name, hypotheses }) else {
+            return Err(AllocError);
+        };
+        Ok(())
     }
 
     /// The hint of a hole. It takes no memory.

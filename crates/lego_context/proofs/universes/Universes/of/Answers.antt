@@ -1,4 +1,4 @@
-use Rattle.std.proofs.Common.{◌≡◌, ◌≤◌, length, sym, ap, subst, ◌∙◌}
+use Rattle.std.proofs.Common.{◌≤◌, length, ap, subst, ◌∙◌}
 use Rattle.lego_context.specs.Forgetting.{universes_bound}
 use Rattle.lego_context.proofs.ListLemmas.{universes_below}
 use Rattle.lego_context.proofs.universes.Universes.of.Goals as goal
