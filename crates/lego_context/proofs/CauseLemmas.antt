@@ -13,7 +13,7 @@ use Rattle.lego_inference.specs.declared.fault.TypeFault.{TypeFault}
 use Rattle.lego_inference.specs.declared.fault.TypeFault.TheVariants as fault
 use Rattle.lego_inference.specs.Entries.{laws_entries}
 use Rattle.lego_inference.specs.Failures.{TypeFails}
-use Rattle.lego_context.specs.Causes.{together, AreAsked, UniverseCause, LevelTooBigCause, IsNewName, TypingFails, AddFails}
+use Rattle.lego_context.specs.Causes.{together, AreAsked, UniverseCause, LevelTooBigCause, IsNewName, TypingFails, AddFails, OpenFails}
 use Rattle.lego_context.specs.Settling.{IsUnsettled}
 use Rattle.lego_context.specs.private.Adding.{StoreFails}
 use Rattle.lego_context.proofs.EntryLemmas.{together_satisfied}
@@ -66,3 +66,8 @@ module _ (es : List Item) (t : Task) (more : List Constraint) (valid : AlwaysVal
   pub add_fails : (name : ℕ) (f : TypeFault) → IsNewName es name → StoreFails es more f → AddFails es name t asked f
   add_fails name f new (StoreFails.unsettled h) = AddFails.typing new (typing_fails f h)
   add_fails name f new (StoreFails.full within full) = AddFails.full new (record { more = more; asked = gathered; within = within }) full
+
+  -- and one of a hole
+  pub open_fails : (f : TypeFault) → StoreFails es more f → OpenFails es t asked f
+  open_fails f (StoreFails.unsettled h) = OpenFails.typing (typing_fails f h)
+  open_fails f (StoreFails.full within full) = OpenFails.full (record { more = more; asked = gathered; within = within }) full

@@ -25,16 +25,16 @@ use Rattle.lego_inference.specs.declared.entry.Entry.{Entry as Item}
 use Rattle.lego_inference.specs.declared.locals.Local.{Local}
 use Rattle.lego_inference.specs.Entries.{laws_entry, laws_entries, numbers_of}
 use Rattle.lego_inference.specs.Locals.{types_of as types_of_locals}
-use Rattle.lego_context.specs.Entries.{names_of, IsEntry, HasNoHole}
+use Rattle.lego_context.specs.Entries.{names_of, IsEntry, HasNoHole, HaveDistinctNames}
 use Rattle.lego_context.specs.Contexts.{Contents, IsContext, AreFrontsValid, IsSmallEntry}
 use Rattle.lego_context.specs.Calls.{AreLocals}
 use Rattle.lego_context.specs.Causes.{together}
 use Rattle.lego_context.specs.Changes.{with_entry}
-use Rattle.lego_context.specs.private.Adding.{IsNext}
+use Rattle.lego_context.specs.private.Adding.{IsNext, CanBeNamed}
 use Rattle.lego_context.proofs.EntryLemmas.{constraints-push, kept_is, entries_at-push, entries_at-cons, push_satisfied, bound-push, differ-push}
-use Rattle.lego_context.proofs.NameLemmas.{apart_from, names-push}
+use Rattle.lego_context.proofs.NameLemmas.{apart_from, names-push, names-unnamed}
 use Rattle.lego_context.proofs.NumberLemmas.{numbers-push}
-use Rattle.lego_context.proofs.HoleLemmas.{holes-push}
+use Rattle.lego_context.proofs.HoleLemmas.{holes-next}
 
 -- what is closed at an assignment is closed
 closed_core : (v : Assignment) (o : Option Core) (p : Option Term) → p ≡ option_map (at v) o → ((t : Term) → p ≡ Some t → loose t ≡ 0) → (m : Core) → o ≡ Some m → loose m ≡ 0
@@ -98,7 +98,7 @@ none_at v k (y ∷ es) new =
     last true t = let same : y.number ≡ k = grind (arith, nat_tests) in absurd (new (0, omega arith, same))
     last false t = rw t refl
 
-module _ (c : Contents) (x : IsContext c) (name : ℕ) (e : Item) (levels : ℕ) (next : IsNext c name e levels) where
+module _ (c : Contents) (x : IsContext c) (e : Item) (levels : ℕ) (next : IsNext c e levels) where
   number_is_new : (v : Assignment) → constant_of (entries_at v (laws_entries c.entries)) e.number ≡ None
   number_is_new v = none_at v e.number c.entries next.number.free
 
@@ -129,16 +129,20 @@ module _ (c : Contents) (x : IsContext c) (name : ℕ) (e : Item) (levels : ℕ)
           let same : take n (c.entries ++ e ∷ []) ≡ take n c.entries = take-append-le n c.entries (e ∷ []) (omega arith) in
           subst (λ (es : List Item). AlwaysValid (laws_entries es)) (sym same) (x.fronts n (subst HasNoHole same none))
 
+  names_now : (o : Option ℕ) → e.name ≡ o → IfSome o (CanBeNamed c.entries) → HaveDistinctNames (c.entries ++ e ∷ [])
+  names_now None none can = subst Differ (sym (names-unnamed c.entries e none)) x.names
+  names_now (Some name) named can = subst Differ (sym (names-push c.entries e name named)) (differ-push (names_of c.entries) name x.names (apart_from (names_of c.entries) name can.1))
+
   -- a context with one entry more is one
   pub is_context_with : CanBeSatisfiedWithin (together c.entries e.constraints) → length c.entries < 65536 → IsContext (with_entry c e levels)
   is_context_with within room = record {
     valid = entries_now;
     fronts = fronts_now;
     satisfiable = subst CanBeSatisfiedWithin (sym (constraints-push c.entries e)) within;
-    names = subst Differ (sym (names-push c.entries e name next.named)) (differ-push (names_of c.entries) name x.names (apart_from (names_of c.entries) name next.new));
+    names = names_now e.name refl next.name;
     numbers = subst Differ (sym (numbers-push c.entries e)) (differ-push (numbers_of c.entries) e.number x.numbers (apart_from (numbers_of c.entries) e.number next.number.free));
     kinds = All-append IsEntry c.entries (e ∷ []) x.kinds (All-cons IsEntry e [] next.entry (All-nil IsEntry));
-    holes = holes-push c.entries e next.no_hole;
+    holes = holes-next c.entries e x.holes next.name;
     small = All-append IsSmallEntry c.entries (e ∷ []) x.small (All-cons IsSmallEntry e [] next.small (All-nil IsSmallEntry));
     few_entries = omega (arith, length-append c.entries (e ∷ []));
     few_levels = next.few_levels;

@@ -18,8 +18,8 @@ use Rattle.lego_context.specs.Contexts.{Contents, IsContext, AreFrontsValid, Can
 use Rattle.lego_context.specs.Cutting.{CanBeCut, cut_of}
 use Rattle.lego_context.specs.private.Kept.{IsKept, with_name, places_from}
 use Rattle.lego_context.specs.private.Cuts.{without_name}
-use Rattle.lego_context.proofs.EntryLemmas.{constraints-push}
-use Rattle.lego_context.proofs.NameLemmas.{whole, names_split}
+use Rattle.lego_context.proofs.EntryLemmas.{constraints-push, append_none}
+use Rattle.lego_context.proofs.NameLemmas.{whole, names_split, places-append}
 use Rattle.lego_context.proofs.NumberLemmas.{numbers-push}
 use Rattle.lego_context.proofs.HoleLemmas.{holes-take}
 use Rattle.lego_context.proofs.UniverseLemmas.{universes-take}
@@ -53,21 +53,7 @@ module _ {X : Type 0} where
   differ_in_front [] ys d = tt
   differ_in_front (x ∷ xs) ys d = (all_in_front (λ y. x ≡ y → ⊥) xs ys d.0, differ_in_front xs ys d.1)
 
-  pub append_none : (xs : List X) → xs ++ [] ≡ xs
-  append_none [] = refl
-  append_none (x ∷ xs) = ap (λ ys. x ∷ ys) (append_none xs)
-
--- the places of names with one entry more
-pub places-append : (n : ℕ) (es : List Item) (e : Item) → places_from n (es ++ e ∷ []) ≡ places_from n es ++ with_name e.name (n + length es) []
-places-append n [] e = let here : n ≡ n + 0 = omega arith in ap (λ i. with_name e.name i []) here
-places-append n (x ∷ es) e = by_name x.name (places-append (suc n) es e ∙ (let here : suc n + length es ≡ n + suc (length es) = omega arith in ap (λ i. places_from (suc n) es ++ with_name e.name i []) here))
-  where
-    by_name : (o : Option ℕ) → places_from (suc n) (es ++ e ∷ []) ≡ places_from (suc n) es ++ with_name e.name (n + suc (length es)) []
-        → with_name o n (places_from (suc n) (es ++ e ∷ [])) ≡ with_name o n (places_from (suc n) es) ++ with_name e.name (n + suc (length es)) []
-    by_name None rest = rest
-    by_name (Some k) rest = ap (λ ps. (k, n) ∷ ps) rest
-
--- and without it again
+-- the places of names without the last entry
 without-append : (n : ℕ) (es : List Item) (e : Item) → without_name e.name (places_from n (es ++ e ∷ [])) ≡ places_from n es
 without-append n es e = by_name e.name refl
   where

@@ -15,7 +15,7 @@ use Rattle.lego_inference.specs.Entries.{laws_entry, laws_entries}
 use Rattle.lego_context.specs.Entries.{constraints_of}
 use Rattle.lego_context.specs.Causes.{together}
 
-append_none : {X : Type 0} (xs : List X) → xs ++ [] ≡ xs
+pub append_none : {X : Type 0} (xs : List X) → xs ++ [] ≡ xs
 append_none [] = refl
 append_none (x ∷ xs) = ap (λ ys. x ∷ ys) (append_none xs)
 

@@ -14,8 +14,8 @@ use Rattle.lego_context.specs.private.Kept.{with_name, places_from}
 use Rattle.lego_context.specs.private.Lists.{IsNewPlace}
 use Rattle.lego_context.specs.Causes.{IsNewName}
 use Rattle.lego_context.proofs.EntryLemmas.{constraints-push}
-use Rattle.lego_context.proofs.NameLemmas.{place_is, no_place, names-push, names_split}
-use Rattle.lego_context.proofs.CutLemmas.{differ_in_front, satisfiable_front, places-append}
+use Rattle.lego_context.proofs.NameLemmas.{place_is, no_place, names-push, names_split, places-append}
+use Rattle.lego_context.proofs.CutLemmas.{differ_in_front, satisfiable_front}
 
 -- the next item goes behind those taken
 pub next_taken : {X : Type 0} (xs : List X) (i : ℕ) (x : X) → i < length xs → x ≡ get_or xs i x → take (i + 1) xs ≡ take i xs ++ x ∷ []

@@ -1,7 +1,6 @@
 -- Names and their places.
-use Rattle.std.proofs.Common.{◌≡◌, ℕ, zero, suc, ◌+◌, nat_eq, nat_lt, if◌then◌else◌, Bool, true, false, List, [], ◌∷◌, ◌++◌, take, drop, length, position, Option, Some, None, option_map, Contains, refl, sym, ap, ◌∙◌, arith}
+use Rattle.std.proofs.Common.{◌≡◌, ℕ, zero, suc, ◌+◌, nat_eq, nat_lt, if◌then◌else◌, Bool, true, false, List, [], ◌∷◌, ◌++◌, take, drop, length, position, Option, Some, None, option_map, IfSome, Contains, refl, sym, ap, ◌∙◌, arith}
 use Rattle.std.specs.List.{position_or_len, AllByRecursion}
-use Rattle.indexmap.specs.IndexMap.{insert_entry}
 use Rattle.std.specs.Map.{lookup}
 use Rattle.std.proofs.lemmas.List.Elements.{filter_map-append}
 use Rattle.std.proofs.lemmas.Bool.{false≢true}
@@ -10,6 +9,8 @@ use Rattle.lego_inference.specs.declared.entry.Entry.{Entry as Item}
 use Rattle.lego_context.specs.Entries.{is_named, position_of, names_of}
 use Rattle.lego_context.specs.Causes.{IsNewName}
 use Rattle.lego_context.specs.private.Kept.{with_name, places_from}
+use Rattle.lego_context.specs.private.Lists.{IsNewPlace}
+use Rattle.lego_context.proofs.EntryLemmas.{append_none}
 
 first_place : (n : ℕ) → nat_lt 0 (suc n) ≡ true
 first_place n = grind (arith, nat_tests)
@@ -111,36 +112,28 @@ module _ (name : ℕ) where
           rw is (still_none (position_of es name) (rest later))
       by_name (Some k) is rest = rw is (by_test k is (nat_eq name k) refl rest)
 
--- the names with the place of one entry more
-places-push : (n : ℕ) (es : List Item) (e : Item) (name : ℕ) → e.name ≡ Some name → places_from n (es ++ e ∷ []) ≡ places_from n es ++ (name, n + length es) ∷ []
-places-push n [] e name is = rw is (let s : n ≡ n + 0 = omega arith in ap (λ i. (name, i) ∷ []) s)
-places-push n (x ∷ es) e name is = by_name x.name (places-push (suc n) es e name is)
+-- the places of names with one entry more
+pub places-append : (n : ℕ) (es : List Item) (e : Item) → places_from n (es ++ e ∷ []) ≡ places_from n es ++ with_name e.name (n + length es) []
+places-append n [] e = let here : n ≡ n + 0 = omega arith in ap (λ i. with_name e.name i []) here
+places-append n (x ∷ es) e = by_name x.name (places-append (suc n) es e ∙ (let here : suc n + length es ≡ n + suc (length es) = omega arith in ap (λ i. places_from (suc n) es ++ with_name e.name i []) here))
   where
-    further : places_from (suc n) es ++ (name, suc n + length es) ∷ [] ≡ places_from (suc n) es ++ (name, n + suc (length es)) ∷ []
-    further = let s : suc n + length es ≡ n + suc (length es) = omega arith in ap (λ i. places_from (suc n) es ++ (name, i) ∷ []) s
+    by_name : (o : Option ℕ) → places_from (suc n) (es ++ e ∷ []) ≡ places_from (suc n) es ++ with_name e.name (n + suc (length es)) []
+        → with_name o n (places_from (suc n) (es ++ e ∷ [])) ≡ with_name o n (places_from (suc n) es) ++ with_name e.name (n + suc (length es)) []
+    by_name None rest = rest
+    by_name (Some k) rest = ap (λ ps. (k, n) ∷ ps) rest
 
-    by_name : (o : Option ℕ) → places_from (suc n) (es ++ e ∷ []) ≡ places_from (suc n) es ++ (name, suc n + length es) ∷ []
-        → with_name o n (places_from (suc n) (es ++ e ∷ [])) ≡ with_name o n (places_from (suc n) es) ++ (name, n + suc (length es)) ∷ []
-    by_name None rest = rest ∙ further
-    by_name (Some k) rest = ap (λ ps. (k, n) ∷ ps) (rest ∙ further)
+-- a new name has no place yet
+pub new_places : (es : List Item) (places : List (ℕ × ℕ)) (o : Option ℕ) → places ≡ places_from 0 es → IfSome o (IsNewName es) → IfSome o (IsNewPlace places)
+new_places es places None kept new = tt
+new_places es places (Some name) kept new = place_is name es places kept ∙ no_place name es new
 
-insert_last : (name at : ℕ) (ps : List (ℕ × ℕ)) → lookup (nat_eq name) ps ≡ None → insert_entry nat_eq ps name at ≡ ps ++ (name, at) ∷ []
-insert_last name at [] h = refl
-insert_last name at (p ∷ ps) h = by_test (nat_eq name p.0) refl (λ n. insert_last name at ps n)
-  where
-    by_test : (b : Bool) → nat_eq name p.0 ≡ b → (lookup (nat_eq name) ps ≡ None → insert_entry nat_eq ps name at ≡ ps ++ (name, at) ∷ []) → insert_entry nat_eq (p ∷ ps) name at ≡ p ∷ (ps ++ (name, at) ∷ [])
-    by_test true t rest = let found : Some p.1 ≡ None = rw t at h in cc
-    by_test false t rest = let none : lookup (nat_eq name) ps ≡ None = rw t at h in rw t (ap (λ qs. p ∷ qs) (rest none))
-
--- the names behind an insertion are those of one entry more
-pub entered : (es all : List Item) (e : Item) (name at : ℕ) (old mid places : List (ℕ × ℕ)) → e.name ≡ Some name → IsNewName es name → old ≡ places_from 0 es → mid ≡ old → at ≡ length es
-    → places ≡ insert_entry nat_eq mid name at → all ≡ es ++ e ∷ [] → places ≡ places_from 0 all
-entered es all e name at old mid places named new kept same here made whole =
-    let before : mid ≡ places_from 0 es = same ∙ kept in
-    let none : lookup (nat_eq name) mid ≡ None = place_is name es mid before ∙ no_place name es new in
-    let last : 0 + length es ≡ at = omega arith in
-    made ∙ insert_last name at mid none ∙ ap (λ ps. ps ++ (name, at) ∷ []) before
-    ∙ ap (λ i. places_from 0 es ++ (name, i) ∷ []) (sym last) ∙ sym (places-push 0 es e name named) ∙ ap (places_from 0) (sym whole)
+-- the names with the place of the last entry are those of one entry more
+pub entered : (es all : List Item) (e : Item) (at : ℕ) (old places : List (ℕ × ℕ)) → old ≡ places_from 0 es → at ≡ length es → places ≡ old ++ with_name e.name at [] → all ≡ es ++ e ∷ []
+    → places ≡ places_from 0 all
+entered es all e at old places kept here made whole =
+    let last : at ≡ 0 + length es = omega arith in
+    made ∙ ap (λ ps. ps ++ with_name e.name at []) kept ∙ ap (λ i. places_from 0 es ++ with_name e.name i []) last
+    ∙ sym (places-append 0 es e) ∙ ap (places_from 0) (sym whole)
 
 -- each item of a list differs from what it doesn't contain
 pub apart_from : (xs : List ℕ) (y : ℕ) → (Contains xs y → ⊥) → AllByRecursion (λ x. x ≡ y → ⊥) xs
@@ -149,6 +142,10 @@ apart_from (x ∷ xs) y h = (λ e. h (0, omega arith, e), apart_from xs y (λ c.
 
 pub names-push : (es : List Item) (e : Item) (name : ℕ) → e.name ≡ Some name → names_of (es ++ e ∷ []) ≡ names_of es ++ name ∷ []
 names-push es e name is = filter_map-append (λ (x : Item). x.name) es (e ∷ []) ∙ ap (λ ys. names_of es ++ ys) (rw is refl)
+
+-- an entry without a name brings none
+pub names-unnamed : (es : List Item) (e : Item) → e.name ≡ None → names_of (es ++ e ∷ []) ≡ names_of es
+names-unnamed es e none = filter_map-append (λ (x : Item). x.name) es (e ∷ []) ∙ rw none (append_none (names_of es))
 
 pub whole : {X : Type 0} (n : ℕ) (xs : List X) → xs ≡ take n xs ++ drop n xs
 whole zero xs = refl

@@ -1,6 +1,7 @@
 -- What a check answers of is fit to be the next entry.
 use Rattle.std.proofs.Common.{◌≡◌, ℕ, ◌≤◌, List, [], Option, Some, None, IfSome, Ok, Err, Result, refl, sym, subst, arith}
 use Rattle.lego_term.specs.declared.binder.Mark.{Mark}
+use Rattle.lego_term.specs.declared.binder.Mark.TheVariants.{Plain}
 use Rattle.lego_term.specs.Levels.{Assignment, LevelPair, SatisfiesAll}
 use Rattle.lego_term.specs.Trees.{Core, at}
 use Rattle.lego_laws.specs.Entries.{entries_at, kept}
@@ -13,6 +14,9 @@ use Rattle.lego_laws.proofs.lemmas.principal.Tasks.{fitting_types_are_types}
 use Rattle.lego_laws.proofs.lemmas.typing.TypingLaws.{type_correctness_law}
 use Rattle.lego_level.specs.Graphs.{pairs_of}
 use Rattle.lego_inference.specs.declared.entry.At.{At}
+use Rattle.lego_inference.specs.declared.entry.Entry.{Entry as Item}
+use Rattle.lego_inference.specs.declared.entry.EntryKind.{EntryKind}
+use Rattle.lego_inference.specs.declared.entry.EntryKind.TheVariants.{Assumed, Hole}
 use Rattle.lego_inference.specs.declared.entry.Judged.{Judged}
 use Rattle.lego_inference.specs.declared.fault.TypeFault.{TypeFault}
 use Rattle.lego_inference.specs.declared.locals.Local.{Local}
@@ -20,16 +24,16 @@ use Rattle.lego_inference.specs.Calls.{IsTermOver, task_over, Infers as InfersOv
 use Rattle.lego_inference.specs.Entries.{laws_entries}
 use Rattle.lego_inference.specs.Inferred as over
 use Rattle.lego_inference.specs.Inferred.{AreGathered}
-use Rattle.lego_context.specs.Entries.{IsLeastFree}
+use Rattle.lego_context.specs.Entries.{IsEntry, IsLeastFree, BeginsWithProducts}
 use Rattle.lego_context.specs.Contexts.{Contents, IsContext}
-use Rattle.lego_context.specs.Calls.{CanTakeType, CanTakeBody, Assumes, Defines}
-use Rattle.lego_context.specs.Causes.{AreAsked, IsNewName}
-use Rattle.lego_context.specs.Changes.{assumption, definition, type_task, body_task, aim_of, FitsDefinition, IsAssumed, IsDefined}
-use Rattle.lego_context.specs.private.Adding.{IsNext, Stores, IsJudged, Judges}
+use Rattle.lego_context.specs.Calls.{CanTakeBody, Assumes, Defines}
+use Rattle.lego_context.specs.Causes.{AreAsked, IsNewName, OpenFails}
+use Rattle.lego_context.specs.Changes.{assumption, definition, hole, type_task, body_task, aim_of, FitsDefinition, IsAssumed, IsDefined, IsOpened}
+use Rattle.lego_context.specs.private.Adding.{CanBeNamed, IsNext, Stores, StoreFails, IsJudged, Judges}
 use Rattle.lego_context.proofs.ContextLemmas.{no_locals}
 use Rattle.lego_context.proofs.LeafLemmas.{small_levels}
 use Rattle.lego_context.proofs.FitLemmas.{fits_rule, fits_type, fits_written}
-use Rattle.lego_context.proofs.CauseLemmas.{add_fails}
+use Rattle.lego_context.proofs.CauseLemmas.{add_fails, open_fails}
 
 -- what holds of a task over the entries of a context, without locals
 pub at_context : (P : Task → Type 0) (here old : Contents) (locals : List Local) (m : Core) (aim : Aim) → locals ≡ [] → here ≡ old
@@ -37,23 +41,38 @@ pub at_context : (P : Task → Type 0) (here old : Contents) (locals : List Loca
 at_context P here old locals m aim none same p =
     subst (λ (z : Contents). P (task_over z.entries [] z.levels m aim)) same (subst (λ (l : List Local). P (task_over here.entries l here.levels m aim)) none p)
 
-module _ (c : Contents) (x : IsContext c) (name number : ℕ) (new : IsNewName c.entries name) (least : IsLeastFree c.entries number) where
-  module _ (ty : Core) (can : CanTakeType c ty) (asked : At) (judged : Judged) (j : over.IsInferredType (type_task c ty) asked.place judged) where
-    pub next_assumption : (mark : Mark) → IsNext c name (assumption number name mark ty judged.constraints) judged.levels
-    next_assumption mark =
-        let f = fits_type c x [] (no_locals c x) ty can.term asked.place judged j in
+module _ (c : Contents) (x : IsContext c) (number : ℕ) (least : IsLeastFree c.entries number) where
+  module _ (ty : Core) (term : IsTermOver c.entries [] c.levels ty) (asked : At) (judged : Judged) (j : over.IsInferredType (type_task c ty) asked.place judged) where
+    -- an entry of this type without a body
+    abbrev typed_entry : Option ℕ → Mark → EntryKind → ℕ → Item
+    typed_entry name mark kind hypotheses = record {
+      number = number;
+      name = name;
+      mark = mark;
+      kind = kind;
+      ty = ty;
+      body = None;
+      hypotheses = hypotheses;
+      constraints = judged.constraints;
+    }
+
+    fits : FitsType c.levels judged.levels (laws_entries c.entries) [] ty (pairs_of judged.constraints)
+    fits = fits_type c x [] (no_locals c x) ty term asked.place judged j
+
+    next_typed : (name : Option ℕ) (mark : Mark) (kind : EntryKind) (hypotheses : ℕ) → IfSome name (CanBeNamed c.entries) → IsEntry (typed_entry name mark kind hypotheses)
+        → IsNext c (typed_entry name mark kind hypotheses) judged.levels
+    next_typed name mark kind hypotheses named entry =
+        let f = fits in
         let count = j.inferred.gathered.count in
-        let open_in = can.term.variables in
-        let within = can.term.levels_within in
+        let open_in = term.variables in
+        let within = term.levels_within in
         record {
-          no_hole = can.no_hole;
-          named = refl;
-          new = new;
+          name = named;
           number = least;
-          entry = record { kind = refl; products = tt };
+          entry = entry;
           closed_type = omega arith;
           closed_body = tt;
-          small = record { type = small_levels (laws_entries c.entries) ty can.term.names; body = tt };
+          small = record { type = small_levels (laws_entries c.entries) ty term.names; body = tt };
           grows = omega arith;
           few_levels = j.inferred.gathered.within;
           type_held = omega arith;
@@ -63,29 +82,53 @@ module _ (c : Contents) (x : IsContext c) (name number : ℕ) (new : IsNewName c
           body = λ v h k. tt;
         }
 
+    -- an assumption, whose name is new where there is no hole
+    pub next_assumption : (name : ℕ) (mark : Mark) → CanBeNamed c.entries name → IsNext c (assumption number name mark ty judged.constraints) judged.levels
+    next_assumption name mark named = next_typed (Some name) mark Assumed 0 named (record { kind = refl; products = tt })
+
+    -- a hole
+    pub next_hole : (hypotheses : ℕ) → BeginsWithProducts hypotheses ty → IsNext c (hole number hypotheses ty judged.constraints) judged.levels
+    next_hole hypotheses products = next_typed None Plain Hole hypotheses tt (record { kind = tt; products = products })
+
     asked_of_type : AreAsked (type_task c ty) asked.place judged.constraints
     asked_of_type = record {
-      fits = subst (λ n. FitsType c.levels n (laws_entries c.entries) [] ty (pairs_of judged.constraints)) j.inferred.gathered.count (fits_type c x [] (no_locals c x) ty can.term asked.place judged j);
+      fits = subst (λ n. FitsType c.levels n (laws_entries c.entries) [] ty (pairs_of judged.constraints)) j.inferred.gathered.count fits;
       gathered = subst (AreGathered (type_task c ty) asked.place judged.constraints) j.inferred.gathered.count j.inferred.gathered;
     }
 
+    -- what is stored as a hole is opened
+    pub opens : (hypotheses : ℕ) (after : Contents) → Stores c (hole number hypotheses ty judged.constraints) judged.levels after (Ok tt) → IsOpened c hypotheses ty asked.place number after
+    opens hypotheses after (is, within, room) =
+        subst (IsOpened c hypotheses ty asked.place number) (sym is) (record {
+          more = judged.constraints;
+          added = refl;
+          least = least;
+          fits = fits;
+          gathered = j.inferred.gathered;
+          within = within;
+          room = room;
+        })
+
+    pub opening_fails : (fault : TypeFault) → StoreFails c.entries judged.constraints fault → OpenFails c.entries (type_task c ty) asked fault
+    opening_fails fault fails = open_fails c.entries (type_task c ty) judged.constraints x.valid refl asked asked_of_type fault fails
+
     -- what is stored is assumed
-    pub assumes : (mark : Mark) (after : Contents) (r : Result (Unit {0}) TypeFault) → Stores c (assumption number name mark ty judged.constraints) judged.levels after r
-        → Assumes c name mark ty asked after r
-    assumes mark after (Ok done) (is, within, room) = (
+    pub assumes : (name : ℕ) (new : IsNewName c.entries name) (mark : Mark) (after : Contents) (r : Result (Unit {0}) TypeFault)
+        → Stores c (assumption number name mark ty judged.constraints) judged.levels after r → Assumes c name mark ty asked after r
+    assumes name new mark after (Ok done) (is, within, room) = (
       new,
       subst (IsAssumed c name mark ty asked.place) (sym is) (record {
         number = number;
         more = judged.constraints;
         added = refl;
         least = least;
-        fits = fits_type c x [] (no_locals c x) ty can.term asked.place judged j;
+        fits = fits;
         gathered = j.inferred.gathered;
         within = within;
         room = room;
       }),
     )
-    assumes mark after (Err fault) (fails, kept) =
+    assumes name new mark after (Err fault) (fails, kept) =
         (add_fails c.entries (type_task c ty) judged.constraints x.valid refl asked asked_of_type name fault new fails, kept)
 
 -- what fits as a definition
@@ -133,16 +176,14 @@ module _ (c : Contents) (x : IsContext c) (body : Core) (term : IsTermOver c.ent
 
 module _ (c : Contents) (x : IsContext c) (name number : ℕ) (new : IsNewName c.entries name) (least : IsLeastFree c.entries number) where
   module _ (body : Core) (written : Option Core) (can : CanTakeBody c body written) (asked : At) (judged : Judged) (j : IsJudged c body written asked judged) where
-    pub next_definition : IsNext c name (definition number name judged.ty body judged.constraints) judged.levels
+    pub next_definition : IsNext c (definition number name judged.ty body judged.constraints) judged.levels
     next_definition =
         let t = typed c x body can.term written judged.ty (pairs_of judged.constraints) judged.levels can.type j.fits in
         let count = j.gathered.count in
         let open_in = can.term.variables in
         let within = can.term.levels_within in
         record {
-          no_hole = can.no_hole;
-          named = refl;
-          new = new;
+          name = (can.no_hole, new);
           number = least;
           entry = record { kind = refl; products = tt };
           closed_type = let l = j.over.variables in omega arith;

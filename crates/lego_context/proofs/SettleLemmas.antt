@@ -14,7 +14,7 @@ use Rattle.lego_context.specs.Contexts.{Contents, IsContext}
 use Rattle.lego_context.specs.Causes.{together}
 use Rattle.lego_context.specs.Changes.{with_universe, with_levels}
 use Rattle.lego_context.specs.Settling.{CanBeSettled, IsSettled}
-use Rattle.lego_context.proofs.CutLemmas.{append_none}
+use Rattle.lego_context.proofs.EntryLemmas.{append_none}
 use Rattle.lego_context.proofs.UniverseLemmas.{universes-push}
 
 variable_below : (n : ℕ) (o : Option ℕ) → node_bound o ≤ n → IsVariableBelow n o

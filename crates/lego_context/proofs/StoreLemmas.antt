@@ -20,12 +20,12 @@ use Rattle.lego_context.specs.private.Kept.{IsKept, places_from}
 use Rattle.lego_context.proofs.ContextLemmas.{is_context_with}
 use Rattle.lego_context.proofs.EntryLemmas.{constraints-push}
 
-module _ (c : Contents) (x : IsContext c) (name : ℕ) (e : Item) (levels : ℕ) (next : IsNext c name e levels) where
+module _ (c : Contents) (x : IsContext c) (e : Item) (levels : ℕ) (next : IsNext c e levels) where
   stored_as : (names : List (ℕ × ℕ)) (graph : List Constraint) (free : ℕ) → names ≡ places_from 0 (c.entries ++ e ∷ []) → graph ≡ together c.entries e.constraints
       → CanBeSatisfiedWithin graph → length c.entries < 65536 → IsLeastFree (c.entries ++ e ∷ []) free
       → IsContext (record { entries = c.entries ++ e ∷ []; universes = c.universes; levels = levels }) × IsKept (c.entries ++ e ∷ []) names graph free
   stored_as names graph free places is within room least = (
-    is_context_with c x name e levels next (subst CanBeSatisfiedWithin is within) room,
+    is_context_with c x e levels next (subst CanBeSatisfiedWithin is within) room,
     record { names = places; graph = is ∙ sym (constraints-push c.entries e); free = least },
   )
 

@@ -23,10 +23,10 @@ use Rattle.lego_inference.specs.Entries.{laws_entries}
 use Rattle.lego_inference.specs.Failures.{TypeFails}
 use Rattle.lego_inference.specs.Inferred.{AreGathered}
 use Rattle.lego_inference.specs.Locals.{types_of, NamesEntries}
-use Rattle.lego_context.specs.Entries.{HasNoHole}
+use Rattle.lego_context.specs.Entries.{HasNoHole, BeginsWithProducts}
 use Rattle.lego_context.specs.Contexts.{Contents}
-use Rattle.lego_context.specs.Causes.{IsNewName, AddFails}
-use Rattle.lego_context.specs.Changes.{type_task, body_task, IsAssumed, IsDefined, with_universe, with_levels}
+use Rattle.lego_context.specs.Causes.{IsNewName, AddFails, OpenFails}
+use Rattle.lego_context.specs.Changes.{type_task, body_task, IsAssumed, IsDefined, IsOpened, with_universe, with_levels}
 
 -- The local types are types in order, at each assignment that satisfies the context's constraints. They name only entries, and
 -- level variables that the context holds, and their levels are small.
@@ -89,6 +89,16 @@ pub record CanTakeBody (c : Contents) (body : Core) (written : Option Core) : Ty
 abbrev pub Defines : Contents → ℕ → Core → Option Core → At → Contents → Result (Unit {0}) TypeFault → Type 0
 Defines old name body ty asked new (Ok done) = IsNewName old.entries name × IsDefined old name body ty asked.place new
 Defines old name body ty asked new (Err fault) = AddFails old.entries name (body_task old body ty) asked fault × (new ≡ old)
+
+-- the type is over the context, and begins with so many products
+pub record CanOpen (c : Contents) (ty : Core) (hypotheses : ℕ) : Type 0 where
+  pub term : IsTermOver c.entries [] c.levels ty
+  pub products : BeginsWithProducts hypotheses ty
+
+-- the hole of the answered number stands; or the refusal has its cause, and the context is as it was
+abbrev pub Opens : Contents → Core → ℕ → At → Contents → Result ℕ TypeFault → Type 0
+Opens old ty hypotheses asked new (Ok number) = IsOpened old hypotheses ty asked.place number new
+Opens old ty hypotheses asked new (Err fault) = OpenFails old.entries (type_task old ty) asked fault × (new ≡ old)
 
 -- a level variable more, which is the next; or there is no room, or memory ran out
 abbrev pub MakesLevel : Contents → Place → Contents → Result Level TypeFault → Type 0

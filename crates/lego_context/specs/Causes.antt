@@ -64,3 +64,8 @@ pub data AddFails (es : List Item) (name : ℕ) (t : Task) (asked : At) : TypeFa
   name_in_use : {at : ℕ} → position_of es name ≡ Some at → AddFails es name t asked (NameInUse at)
   typing : {fault : TypeFault} → IsNewName es name → TypingFails es t asked fault → AddFails es name t asked fault
   full : IsNewName es name → IsAdmitted es t asked.place → length es ≡ 65536 → AddFails es name t asked (Full Entries 65536)
+
+-- A hole, whose typing is this task, is refused so, in this order: its typing is refused; there is no room.
+pub data OpenFails (es : List Item) (t : Task) (asked : At) : TypeFault → Type 0 where
+  typing : {fault : TypeFault} → TypingFails es t asked fault → OpenFails es t asked fault
+  full : IsAdmitted es t asked.place → length es ≡ 65536 → OpenFails es t asked (Full Entries 65536)

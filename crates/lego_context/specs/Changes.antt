@@ -11,7 +11,7 @@ use Rattle.lego_laws.specs.Places.{Task, Aim, AnyType, BeAType, OfWrittenType}
 use Rattle.lego_level.specs.declared.constraint.Constraint.{Constraint}
 use Rattle.lego_level.specs.Graphs.{pairs_of, CanBeSatisfiedWithin}
 use Rattle.lego_inference.specs.declared.entry.Entry.{Entry as Item}
-use Rattle.lego_inference.specs.declared.entry.EntryKind.TheVariants.{Assumed, Defined}
+use Rattle.lego_inference.specs.declared.entry.EntryKind.TheVariants.{Assumed, Defined, Hole}
 use Rattle.lego_inference.specs.Calls.{task_over}
 use Rattle.lego_inference.specs.Entries.{laws_entries}
 use Rattle.lego_inference.specs.Inferred.{AreGathered}
@@ -43,11 +43,23 @@ definition number name ty body more = record {
   constraints = more;
 }
 
+abbrev pub hole : ℕ → ℕ → Core → List Constraint → Item
+hole number hypotheses ty more = record {
+  number = number;
+  name = None;
+  mark = Plain;
+  kind = Hole;
+  ty = ty;
+  body = None;
+  hypotheses = hypotheses;
+  constraints = more;
+}
+
 -- one entry more, and so many level variables
 abbrev pub with_entry : Contents → Item → ℕ → Contents
 with_entry c entry levels = record { entries = c.entries ++ entry ∷ []; universes = c.universes; levels = levels }
 
--- what is wanted of an assumption's type, and of a definition's body
+-- what is wanted of the type of an assumption and of a hole, and of a definition's body
 abbrev pub type_task : Contents → Core → Task
 type_task c ty = task_over c.entries [] c.levels ty BeAType
 
@@ -64,6 +76,17 @@ pub record IsAssumed (old : Contents) (name : ℕ) (mark : Mark) (ty : Core) (pl
   pub number : ℕ
   pub more : List Constraint
   pub added : new ≡ with_entry old (assumption number name mark ty more) new.levels
+  pub least : IsLeastFree old.entries number
+  pub fits : FitsType old.levels new.levels (laws_entries old.entries) [] ty (pairs_of more)
+  pub gathered : AreGathered (type_task old ty) place more new.levels
+  pub within : CanBeSatisfiedWithin (together old.entries more)
+  pub room : length old.entries < 65536
+
+-- A hole goes last, with the least number that no entry has, where there is room. Its constraints are those of its check, fit that
+-- its type is one, and can be satisfied within the limit together with those held.
+pub record IsOpened (old : Contents) (hypotheses : ℕ) (ty : Core) (place : Place) (number : ℕ) (new : Contents) : Type 0 where
+  pub more : List Constraint
+  pub added : new ≡ with_entry old (hole number hypotheses ty more) new.levels
   pub least : IsLeastFree old.entries number
   pub fits : FitsType old.levels new.levels (laws_entries old.entries) [] ty (pairs_of more)
   pub gathered : AreGathered (type_task old ty) place more new.levels

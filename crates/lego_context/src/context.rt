@@ -15,6 +15,7 @@ mod cutting;
 mod defining;
 mod forgetting;
 mod levels;
+mod opening;
 mod settling;
 mod typing;
 

@@ -1,5 +1,5 @@
 -- What the functions answer that put an entry behind the others.
-use Rattle.std.specs.Prelude.{◌≡◌, ℕ, ◌<◌, ◌≤◌, List, [], length, Option, Some, IfSome, Result, Ok, Err}
+use Rattle.std.specs.Prelude.{◌≡◌, ℕ, ◌<◌, ◌≤◌, List, [], length, Option, IfSome, Result, Ok, Err}
 use Rattle.lego_term.specs.Levels.{Assignment, SatisfiesAll}
 use Rattle.lego_term.specs.Trees.{Core, at, loose}
 use Rattle.lego_laws.specs.Entries.{entries_at, kept}
@@ -26,11 +26,13 @@ use Rattle.lego_context.specs.Causes.{together, IsNewName}
 use Rattle.lego_context.specs.Settling.{IsUnsettled}
 use Rattle.lego_context.specs.Changes.{with_entry, body_task, FitsDefinition}
 
+-- an entry of the name can go behind the entries: they have no hole, and the name is new
+abbrev pub CanBeNamed : List Item → ℕ → Type 0
+CanBeNamed es name = HasNoHole es × IsNewName es name
+
 -- an entry that can go behind those of a context, over so many level variables
-pub record IsNext (c : Contents) (name : ℕ) (e : Item) (levels : ℕ) : Type 0 where
-  pub no_hole : HasNoHole c.entries
-  pub named : e.name ≡ Some name
-  pub new : IsNewName c.entries name
+pub record IsNext (c : Contents) (e : Item) (levels : ℕ) : Type 0 where
+  pub name : IfSome e.name (CanBeNamed c.entries)
   pub number : IsLeastFree c.entries e.number
   pub entry : IsEntry e
   pub closed_type : loose e.ty ≡ 0

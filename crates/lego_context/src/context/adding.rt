@@ -1,29 +1,31 @@
 //! Entries that go behind the others.
-ghost use Rattle.std.specs.Prelude.{◌≡◌, ◌<◌, ◌≤◌, ◌++◌, [], ◌∷◌, length, Contains, Some, OnOk, OnErr, IfErr, IfSome};
+ghost use Rattle.std.specs.Prelude.{◌≡◌, ◌<◌, ◌≤◌, ◌++◌, [], ◌∷◌, length, Contains, OnOk, OnErr, IfErr, IfSome};
 ghost use Rattle.lego_term.specs.Trees.{loose};
 ghost use Rattle.lego_inference.specs.Entries.{numbers_of};
 ghost use Rattle.lego_context.specs.Causes.{IsNewName};
 ghost use Rattle.lego_context.specs.private.Adding.{IsNext, Stores, EnterFails};
-ghost use Rattle.lego_context.specs.private.Kept.{places_from};
+ghost use Rattle.lego_context.specs.private.Kept.{with_name, places_from};
+ghost use Rattle.lego_context.specs.private.Lists.{IsNewPlace};
 
 use super::Context;
 use crate::admission::admit;
 use crate::numbers::next_free;
 use indexmap::IndexMap;
 use lego_inference::{Counted, Entry, Signature, TypeFault};
+use std::alloc::AllocError;
 
 /// The most entries of a context.
 const MAX_ENTRIES: usize = 65_536;
 
 impl Context {
-    /// Puts an entry of this name behind the others, over so many level variables.
-    pub(super) fn store(&mut self, name: u32, entry: Entry, levels: u32) -> Result<(), TypeFault>
-        requires { IsNext self.old name entry levels }
+    /// Puts an entry behind the others, over so many level variables.
+    pub(super) fn store(&mut self, entry: Entry, levels: u32) -> Result<(), TypeFault>
+        requires { IsNext self.old entry levels }
         ensures { Stores self.old entry levels self.new result }
     {
         let held = self.graph.len();
         admit(&mut self.graph, entry.constraints.items())?;
-        if let Err(fault) = enter(&mut self.signature, &mut self.names, name, entry) {
+        if let Err(fault) = enter(&mut self.signature, &mut self.names, entry) {
             self.graph.cut_to(held);
             return Err(fault);
         }
@@ -33,16 +35,14 @@ impl Context {
     }
 }
 
-/// Puts the entry behind the others, and its name with its place among the names.
+/// Puts the entry behind the others, and its name, where it has one, with its place among the names.
 fn enter(
     signature: &mut Signature,
     names: &mut IndexMap<u32, usize>,
-    name: u32,
     entry: Entry,
 ) -> Result<(), TypeFault>
     requires few { length signature.old ≤ 65536 }
-    requires named { entry.name ≡ Some name }
-    requires new { IsNewName signature.old name }
+    requires new { IfSome entry.name (IsNewName signature.old) }
     requires number { Contains (numbers_of signature.old) entry.number → ⊥ }
     requires closed_type { loose entry.ty ≡ 0 }
     requires closed_body { IfSome entry.body (λ m. loose m ≡ 0) }
@@ -61,11 +61,27 @@ fn enter(
             held: MAX_ENTRIES as u32,
         });
     }
-    // Room first, so that a refusal leaves both lists as they were.
-    names.reserve(1)?;
-    signature.push(entry)?;
-    let Ok(_) = names.insert(name, at) else {
-        unreachable!()
+    let held = names.len();
+    place(names, entry.name, at)?;
+    let Ok(()) = signature.push(entry) else {
+        names.truncate(held);
+        return Err(TypeFault::Memory);
     };
+    Ok(())
+}
+
+/// Puts a name with its place behind the others, where there is one.
+pub(super) fn place(
+    places: &mut IndexMap<u32, usize>,
+    name: Option<u32>,
+    at: usize,
+) -> Result<(), AllocError>
+    requires { IfSome name (IsNewPlace places.old.entries) }
+    ensures placed { OnOk result (places.new.entries ≡ places.old.entries ++ with_name name at []) }
+    ensures kept { OnErr result (places.new.entries ≡ places.old.entries) }
+{
+    if let Some(name) = name {
+        places.insert(name, at)?;
+    }
     Ok(())
 }

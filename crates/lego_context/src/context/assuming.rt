@@ -30,6 +30,6 @@ impl Context {
             hypotheses: 0,
             constraints: judged.constraints,
         };
-        self.store(name, entry, judged.levels)
+        self.store(entry, judged.levels)
     }
 }

@@ -8,6 +8,7 @@ ghost use Rattle.lego_context.specs.private.Kept.{with_name, places_from};
 ghost use Rattle.lego_context.specs.private.Lists.{IsNewPlace};
 
 use super::Context;
+use super::adding::place;
 use crate::numbers::next_free;
 use crate::universes::Universes;
 use crate::variables::{entries_bound, universes_bound};
@@ -93,17 +94,6 @@ fn places_of(alloc: Global, entries: &[Entry]) -> Result<IndexMap<u32, usize>, A
         place(&mut places, entries[at].name, at)?;
     }
     Ok(places)
-}
-
-/// Puts a name with its place behind the others, where there is one.
-fn place(places: &mut IndexMap<u32, usize>, name: Option<u32>, at: usize) -> Result<(), AllocError>
-    requires { IfSome name (IsNewPlace places.old.entries) }
-    ensures { OnOk result (places.new.entries ≡ places.old.entries ++ with_name name at []) }
-{
-    if let Some(name) = name {
-        places.insert(name, at)?;
-    }
-    Ok(())
 }
 
 /// The graph of the entries' constraints.

@@ -40,7 +40,7 @@ impl Context {
             hypotheses: 0,
             constraints: judged.constraints,
         };
-        self.store(name, entry, judged.levels)
+        self.store(entry, judged.levels)
     }
 
     /// The type of a body: the written one, else the inferred one.

@@ -45,8 +45,8 @@ store-requires c =
     let j =
     at_context (λ (t : Task). over.IsInferredType t c.args.asked.place judged) (record { entries = c.self.inside.signature; universes = c.self.inside.universes; levels = c.self.inside.levels }) c.args.self.now
     c.new-locals.result c.args.ty.now BeAType c.new-locals.ensures c.self.view_is c.in_ok-judged.ensures in
-    subst (λ (t : Core). IsNext c.args.self.now c.args.name (assumption c.self.inside.free c.args.name c.args.mark t judged.constraints) judged.levels) (sym c.in_ok-share.ensures.same)
-    (next_assumption c.args.self.now x c.args.name c.self.inside.free new least c.args.ty.now c.requires c.args.asked judged j c.args.mark)
+    subst (λ (t : Core). IsNext c.args.self.now (assumption c.self.inside.free c.args.name c.args.mark t judged.constraints) judged.levels) (sym c.in_ok-share.ensures.same)
+    (next_assumption c.args.self.now x c.self.inside.free least c.args.ty.now c.requires.term c.args.asked judged j c.args.name c.args.mark (c.requires.no_hole, new))
 
 pub returns : goal.returns
 returns c =
@@ -57,7 +57,7 @@ returns c =
     let j =
     at_context (λ (t : Task). over.IsInferredType t c.args.asked.place judged) (record { entries = c.self.inside.signature; universes = c.self.inside.universes; levels = c.self.inside.levels }) c.args.self.now
     c.new-locals.result c.args.ty.now BeAType c.new-locals.ensures c.self.view_is c.in_ok-judged.ensures in
-    assumes c.args.self.now x c.args.name c.self.inside.free new least c.args.ty.now c.requires c.args.asked judged j c.args.mark c.store.new.self c.store.result
+    assumes c.args.self.now x c.self.inside.free least c.args.ty.now c.requires.term c.args.asked judged j c.args.name new c.args.mark c.store.new.self c.store.result
     (subst (λ (t : Core). Stores c.args.self.now (assumption c.self.inside.free c.args.name c.args.mark t judged.constraints) judged.levels c.store.new.self c.store.result) c.in_ok-share.ensures.same c.store.ensures)
 
 pub infer_type-requires-clause-held : goal.infer_type-requires-clause-held

@@ -33,7 +33,7 @@ store-requires c =
     let least = subst (λ (z : Contents). IsLeastFree z.entries c.self.inside.free) c.self.view_is c.self.invariant.1.free in
     let new = new_name c.args.name c.args.self.now.entries (sym c.position.ensures ∙ c.in_default.is) in
     let judged = c.in_ok-judged.judged in
-    subst (λ (b : Core). IsNext c.args.self.now c.args.name (definition c.self.inside.free c.args.name judged.ty b judged.constraints) judged.levels) (sym c.in_ok-share.ensures.same)
+    subst (λ (b : Core). IsNext c.args.self.now (definition c.self.inside.free c.args.name judged.ty b judged.constraints) judged.levels) (sym c.in_ok-share.ensures.same)
     (next_definition c.args.self.now x c.args.name c.self.inside.free new least c.args.body.now (option_copied c.args.ty) c.requires c.args.asked judged c.in_ok-judged.ensures)
 
 pub returns : goal.returns

@@ -34,7 +34,7 @@ next_free-self-inside-requires-clause-below c = taken-push c.self.inside.signatu
 pub invariant_of-self-2 : goal.invariant_of-self-2
 invariant_of-self-2 c =
     let here : Contents = record { entries = c.self.inside.signature; universes = c.self.inside.universes; levels = c.self.inside.levels } in
-    let next = subst (λ (z : Contents). IsNext z c.args.name c.args.entry c.args.levels) (sym c.self.view_is) c.requires in
+    let next = subst (λ (z : Contents). IsNext z c.args.entry c.args.levels) (sym c.self.view_is) c.requires in
     let added = c.in_ok-admit.ensures.added ∙ ap (λ (k : List Constraint). c.self.inside.graph ++ k) c.items.ensures in
-    stored here c.self.invariant.0 c.args.name c.args.entry c.args.levels next c.self.inside.graph c.enter.new.signature c.enter.new.names.entries c.admit.new.graph c.next_free-self-inside.result
+    stored here c.self.invariant.0 c.args.entry c.args.levels next c.self.inside.graph c.enter.new.signature c.enter.new.names.entries c.admit.new.graph c.next_free-self-inside.result
     c.self.invariant.1.graph c.in_default.ensures.entered c.in_default.ensures.places added c.in_ok-admit.ensures.within c.in_default.ensures.room c.next_free-self-inside.ensures

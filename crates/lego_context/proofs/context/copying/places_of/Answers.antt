@@ -13,4 +13,4 @@ place-requires c =
 pub loop-at-preserved : goal.loop-at-preserved
 loop-at-preserved c =
     places_more c.args.entries.now c.requires c.loop-at.at c.index-entries-at.result (omega arith) c.index-entries-at.is c.loop-at.places.entries c.place.new.places.entries c.loop-at.invariant
-    (c.in_ok-place.ensures ∙ ap (λ (e : Item). c.loop-at.places.entries ++ with_name e.name c.loop-at.at []) (sym c.index-entries-at.is))
+    (c.in_ok-place.ensures.placed ∙ ap (λ (e : Item). c.loop-at.places.entries ++ with_name e.name c.loop-at.at []) (sym c.index-entries-at.is))
