@@ -38,27 +38,47 @@ pub(crate) fn universe(alloc: Global, level: u32) -> Result<Term, TermFault> {
     )
 }
 
-/// The names of `fixture`: a proposition and a proof of it.
+/// The names of the first two entries: a proposition and a proof of it.
 pub(crate) const PROPOSITION: u32 = 7;
 
 pub(crate) const PROOF: u32 = 4;
 
-/// The context `A : Prop, a : A`, whose constants are 0 and 1.
-pub(crate) fn fixture(alloc: Global) -> Result<Context, Fail> {
+/// Makes a test over the context `A : Prop, a : A`, whose constants are 0 and 1. The context is
+/// dropped here and not in each test, since that is dear to prove.
+pub(crate) fn over_fixture<F: FnOnce(Global, &mut Context) -> Result<(), Fail>>(
+    alloc: Global,
+    test: F,
+) -> Result<(), Fail>
+    requires { F.IsAlwaysCallable test }
+{
     let mut context = Context::new(alloc);
+    begin(alloc, &mut context)?;
+    test(alloc, &mut context)
+}
+
+fn begin(alloc: Global, context: &mut Context) -> Result<(), Fail> {
     let prop = prop(alloc)?;
     let proposition = konst(alloc, 0)?;
-    assume(&mut context, PROPOSITION, &prop)?;
-    assume(&mut context, PROOF, &proposition)?;
-    Ok(context)
+    assume(context, PROPOSITION, &prop)?;
+    assume(context, PROOF, &proposition)
+}
+
+/// An error with this text, where the fact doesn't hold.
+pub(crate) fn hold(fact: bool, text: &str) -> Result<(), Fail> {
+    if fact { Ok(()) } else { Err(Fail::new(text)) }
+}
+
+/// What is to be accepted.
+pub(crate) fn accepted<T>(outcome: Result<T, TypeFault>) -> Result<T, Fail> {
+    match outcome {
+        Ok(value) => Ok(value),
+        Err(_) => Err(Fail::new("refused")),
+    }
 }
 
 /// Adds an assumption that is to be accepted.
 pub(crate) fn assume(context: &mut Context, name: u32, ty: &Term) -> Result<(), Fail> {
-    match try_assume(context, name, ty) {
-        Ok(()) => Ok(()),
-        Err(_) => Err(Fail::new("the assumption is refused")),
-    }
+    accepted(try_assume(context, name, ty))
 }
 
 /// Adds a definition that is to be accepted.
@@ -68,10 +88,7 @@ pub(crate) fn define(
     body: &Term,
     ty: Option<&Term>,
 ) -> Result<(), Fail> {
-    match try_define(context, name, body, ty, AT) {
-        Ok(()) => Ok(()),
-        Err(_) => Err(Fail::new("the definition is refused")),
-    }
+    accepted(try_define(context, name, body, ty, AT))
 }
 
 /// Adds an assumption, whose type is to be over the context.

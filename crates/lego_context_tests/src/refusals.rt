@@ -1,57 +1,64 @@
 //! Each refusal on a small input, over `A : Prop, a : A`.
+use crate::faults::{Cause, refused};
 use crate::fixture::{
-    AT, PLACE, PLAIN, PROPOSITION, assume, define, fixture, infer, try_assume, try_define, universe,
+    AT, PLACE, PLAIN, PROPOSITION, accepted, assume, define, hold, infer, over_fixture, try_assume,
+    try_define, universe,
 };
 use lego_context::Context;
 use lego_inference::{At, Counted, TypeFault};
-use lego_level::Constraint;
-use lego_term::{
-    Mark, Term, TermFault, app, fst, identical, konst, pi, prop, sigma, snd, univ, var,
-};
+use lego_term::{Mark, Term, TermFault, app, fst, konst, pi, prop, sigma, snd, univ, var};
 use std::alloc::Global;
-use std::test::*;
+use std::test::Fail;
+
+fn proof_as_type(alloc: Global, context: &mut Context) -> Result<(), Fail> {
+    let proof = konst(alloc, 1)?;
+    let proposition = konst(alloc, 0)?;
+    let refusal = refused(alloc, try_assume(context, 10, &proof))?;
+    hold(refusal.cause == Cause::NotAType, "the cause")?;
+    hold(refusal.shows(0, &proof), "the term")?;
+    hold(refusal.shows(1, &proposition), "its type")?;
+    hold(context.len() == 2, "the entries")
+}
 
 #[test]
 fn a_proof_is_no_type(rt: HostRuntime) -> Result<(), Fail> {
-    let alloc = rt.alloc();
-    let mut context = fixture(alloc)?;
+    over_fixture(rt.alloc(), proof_as_type)
+}
+
+fn proof_as_function(alloc: Global, context: &mut Context) -> Result<(), Fail> {
     let proof = konst(alloc, 1)?;
-    let Err(TypeFault::NotAType { term, got }) = try_assume(&mut context, 10, &proof) else {
-        return Err(Fail::new("not a type"));
-    };
-    assert!(rt; identical(&term.term, &proof));
-    assert!(rt; identical(&got.term, &konst(alloc, 0)?));
-    assert_eq!(rt; context.len(), 2);
-    Ok(())
+    let proposition = konst(alloc, 0)?;
+    let applied = app(alloc, Mark::Plain, &proof, &proof)?;
+    let refusal = refused(alloc, infer(alloc, context, &applied))?;
+    hold(refusal.cause == Cause::NotAFunction, "the cause")?;
+    hold(refusal.shows(0, &proof), "the term")?;
+    hold(refusal.shows(1, &proposition), "its type")
 }
 
 #[test]
 fn a_proof_is_no_function(rt: HostRuntime) -> Result<(), Fail> {
-    let alloc = rt.alloc();
-    let context = fixture(alloc)?;
-    let proof = konst(alloc, 1)?;
-    let applied = app(alloc, Mark::Plain, &proof, &proof)?;
-    let Err(TypeFault::NotAFunction { term, got }) = infer(alloc, &context, &applied) else {
-        return Err(Fail::new("not a function"));
-    };
-    assert!(rt; identical(&term.term, &proof));
-    assert!(rt; identical(&got.term, &konst(alloc, 0)?));
-    Ok(())
+    over_fixture(rt.alloc(), proof_as_function)
+}
+
+/// That a projection of `Prop` is refused.
+fn part_of_prop(alloc: Global, context: &Context, part: &Term) -> Result<(), Fail> {
+    let prop = prop(alloc)?;
+    let ty = universe(alloc, 0)?;
+    let refusal = refused(alloc, infer(alloc, context, part))?;
+    hold(refusal.cause == Cause::NotAPair, "the cause")?;
+    hold(refusal.shows(0, &prop), "the term")?;
+    hold(refusal.shows(1, &ty), "its type")
+}
+
+fn parts_of_prop(alloc: Global, context: &mut Context) -> Result<(), Fail> {
+    let prop = prop(alloc)?;
+    part_of_prop(alloc, context, &fst(alloc, &prop)?)?;
+    part_of_prop(alloc, context, &snd(alloc, &prop)?)
 }
 
 #[test]
 fn what_is_no_pair_has_no_parts(rt: HostRuntime) -> Result<(), Fail> {
-    let alloc = rt.alloc();
-    let context = fixture(alloc)?;
-    let prop = prop(alloc)?;
-    for part in [fst(alloc, &prop)?, snd(alloc, &prop)?] {
-        let Err(TypeFault::NotAPair { term, got }) = infer(alloc, &context, &part) else {
-            return Err(Fail::new("not a pair"));
-        };
-        assert!(rt; identical(&term.term, &prop));
-        assert!(rt; identical(&got.term, &universe(alloc, 0)?));
-    }
-    Ok(())
+    over_fixture(rt.alloc(), parts_of_prop)
 }
 
 /// `A : Prop, a : A, B : Prop, f : B -> B` and `f a`.
@@ -62,116 +69,88 @@ fn wrong_argument(alloc: Global, context: &mut Context) -> Result<Term, Fail> {
     Ok(app(alloc, Mark::Plain, &konst(alloc, 3)?, &konst(alloc, 1)?)?)
 }
 
+fn argument_of_another_type(alloc: Global, context: &mut Context) -> Result<(), Fail> {
+    let applied = wrong_argument(alloc, context)?;
+    let refusal = refused(alloc, infer(alloc, context, &applied))?;
+    hold(refusal.cause == Cause::Mismatch, "the cause")?;
+    hold(refusal.shows(0, &konst(alloc, 1)?), "the argument")?;
+    hold(refusal.shows(1, &konst(alloc, 0)?), "its type")?;
+    hold(refusal.shows(2, &konst(alloc, 2)?), "the domain")
+}
+
 #[test]
 fn an_argument_of_another_type_is_a_mismatch(rt: HostRuntime) -> Result<(), Fail> {
-    let alloc = rt.alloc();
-    let mut context = fixture(alloc)?;
-    let applied = wrong_argument(alloc, &mut context)?;
-    let Err(TypeFault::Mismatch { term, have, want }) = infer(alloc, &context, &applied) else {
-        return Err(Fail::new("mismatch"));
-    };
-    assert!(rt; identical(&term.term, &konst(alloc, 1)?));
-    assert!(rt; identical(&have.term, &konst(alloc, 0)?));
-    assert!(rt; identical(&want.term, &konst(alloc, 2)?));
-    Ok(())
+    over_fixture(rt.alloc(), argument_of_another_type)
+}
+
+fn function_before_argument(alloc: Global, context: &mut Context) -> Result<(), Fail> {
+    let proof = konst(alloc, 1)?;
+    let part = fst(alloc, &proof)?;
+    let both = app(alloc, Mark::Plain, &proof, &part)?;
+    let refusal = refused(alloc, infer(alloc, context, &both))?;
+    hold(refusal.cause == Cause::NotAFunction, "the cause")
 }
 
 #[test]
 fn the_function_is_refused_before_the_argument(rt: HostRuntime) -> Result<(), Fail> {
-    let alloc = rt.alloc();
-    let context = fixture(alloc)?;
-    let proof = konst(alloc, 1)?;
-    let part = fst(alloc, &proof)?;
-    let both = app(alloc, Mark::Plain, &proof, &part)?;
-    assert!(rt;
-        matches!(
-            infer(alloc, &context, &both),
-            Err(TypeFault::NotAFunction { .. })
-        )
-    );
-    Ok(())
+    over_fixture(rt.alloc(), function_before_argument)
 }
 
-/// Whether the constraints are a closed walk whose total is positive.
-fn is_cycle(cycle: &[Constraint]) -> bool {
-    let Some(last) = cycle.last() else {
-        return false;
-    };
-    let mut at = last.high.base;
-    let mut low: u64 = 0;
-    let mut high: u64 = 0;
-    for constraint in cycle {
-        if constraint.low.base != at {
-            return false;
-        }
-        at = constraint.high.base;
-        low = low.saturating_add(u64::from(constraint.low.plus));
-        high = high.saturating_add(u64::from(constraint.high.plus));
-    }
-    high < low
+fn universe_in_itself(alloc: Global, context: &mut Context) -> Result<(), Fail> {
+    let itself = univ(alloc, accepted(context.fresh_level(PLACE))?)?;
+    let asked = try_define(context, 10, &itself, Some(&itself), AT);
+    let refusal = refused(alloc, asked)?;
+    hold(
+        refusal.cause == Cause::Universe { is_cycle: true },
+        "the cause",
+    )?;
+    hold(context.len() == 2, "the entries")?;
+    hold(context.levels() == 1, "the level variables")
 }
 
 #[test]
 fn a_universe_does_not_lie_in_itself(rt: HostRuntime) -> Result<(), Fail> {
-    let alloc = rt.alloc();
-    let mut context = fixture(alloc)?;
-    let Ok(level) = context.fresh_level(PLACE) else {
-        return Err(Fail::new("no level"));
-    };
-    let itself = univ(alloc, level)?;
-    let Err(TypeFault::Universe { cycle }) = try_define(
-        &mut context,
-        10,
-        &itself,
-        Some(&itself),
-        AT,
-    ) else {
-        return Err(Fail::new("no cycle"));
-    };
-    assert!(rt; is_cycle(cycle.items()));
-    assert_eq!(rt; (context.len(), context.levels()), (2, 1));
-    Ok(())
+    over_fixture(rt.alloc(), universe_in_itself)
+}
+
+fn greatest_level(alloc: Global, context: &mut Context) -> Result<(), Fail> {
+    assume(context, 10, &universe(alloc, 999_999)?)?;
+    let above = universe(alloc, 1_000_000)?;
+    let refusal = refused(alloc, try_assume(context, 11, &above))?;
+    hold(
+        refusal.cause == Cause::LevelTooBig { needed: 1_000_001 },
+        "the cause",
+    )?;
+    hold(context.len() == 3, "the entries")
 }
 
 #[test]
 fn levels_end_at_1_000_000(rt: HostRuntime) -> Result<(), Fail> {
-    let alloc = rt.alloc();
-    let mut context = fixture(alloc)?;
-    assume(&mut context, 10, &universe(alloc, 999_999)?)?;
-    let Err(TypeFault::LevelTooBig { needed, .. }) = try_assume(
-        &mut context,
-        11,
-        &universe(alloc, 1_000_000)?,
-    ) else {
-        return Err(Fail::new("too big"));
+    over_fixture(rt.alloc(), greatest_level)
+}
+
+/// A definition whose written type unfolds in two steps to the inferred one, with so many allowed.
+fn define_unfolded(alloc: Global, context: &mut Context, limit: u64) -> Result<(), TypeFault> {
+    let ty = konst(alloc, 3)?;
+    let proof = konst(alloc, 1)?;
+    let asked = At {
+        place: PLACE,
+        limit,
     };
-    assert_eq!(rt; needed, 1_000_001);
-    assert_eq!(rt; context.len(), 3);
-    Ok(())
+    try_define(context, 12, &proof, Some(&ty), asked)
+}
+
+fn comparison_at_its_limit(alloc: Global, context: &mut Context) -> Result<(), Fail> {
+    define(context, 10, &konst(alloc, 0)?, None)?;
+    define(context, 11, &konst(alloc, 2)?, None)?;
+    let refusal = refused(alloc, define_unfolded(alloc, context, 1))?;
+    hold(refusal.cause == Cause::Budget, "the cause")?;
+    accepted(define_unfolded(alloc, context, 2))
 }
 
 #[test]
 fn a_comparison_takes_no_more_steps_than_allowed(rt: HostRuntime) -> Result<(), Fail> {
-    let alloc = rt.alloc();
-    let mut context = fixture(alloc)?;
-    define(&mut context, 10, &konst(alloc, 0)?, None)?;
-    define(&mut context, 11, &konst(alloc, 2)?, None)?;
-    let ty = konst(alloc, 3)?;
-    let proof = konst(alloc, 1)?;
-    for (limit, is_enough) in [(1, false), (2, true)] {
-        let asked = At {
-            place: PLACE,
-            limit,
-        };
-        let outcome = try_define(&mut context, 12, &proof, Some(&ty), asked);
-        assert_eq!(rt; outcome.is_ok(), is_enough, "at {limit}");
-        assert_eq!(rt;
-            matches!(outcome, Err(TypeFault::Budget { .. })),
-            !is_enough,
-            "at {limit}"
-        );
-    }
-    Ok(())
+    over_fixture(rt.alloc(), comparison_at_its_limit)
 }
 
 /// A product of so many domains `Prop` into `Prop`.
@@ -183,69 +162,71 @@ fn deep(alloc: Global, depth: u32) -> Result<Term, TermFault> {
     Ok(product)
 }
 
-/// Two terms of half the greatest depth are put together in the type of an application.
-#[test]
-fn a_type_that_is_too_deep_is_refused(rt: HostRuntime) -> Result<(), Fail> {
-    let alloc = rt.alloc();
-    let mut context = fixture(alloc)?;
-    let top = universe(alloc, 9)?;
+/// The product of a universe into so many Sigma types of its elements.
+fn deep_family(alloc: Global, depth: u32) -> Result<Term, TermFault> {
     let mut result = var(alloc, 0)?;
-    for _ in 0..1_000 {
+    for _ in 0..depth {
         result = sigma(alloc, PLAIN, &result, &prop(alloc)?)?;
     }
-    let family = pi(alloc, PLAIN, &top, &result)?;
-    assume(&mut context, 10, &family)?;
+    pi(alloc, PLAIN, &universe(alloc, 9)?, &result)
+}
+
+/// Two terms of half the greatest depth come together in the type of an application.
+fn type_of_two_halves(alloc: Global, context: &mut Context) -> Result<(), Fail> {
+    assume(context, 10, &deep_family(alloc, 1_000)?)?;
     let argument = deep(alloc, 1_000)?;
     let applied = app(alloc, Mark::Plain, &konst(alloc, 2)?, &argument)?;
-    let Err(TypeFault::TooLarge { depth, .. }) = infer(alloc, &context, &applied) else {
-        return Err(Fail::new("too large"));
-    };
-    assert!(rt; depth > 2_000);
-    Ok(())
-}
-
-#[test]
-fn level_variables_end_at_1_048_576(rt: HostRuntime) -> Result<(), Fail> {
-    let alloc = rt.alloc();
-    let mut context = fixture(alloc)?;
-    assert!(rt; is_full_of_levels(context.reserve_levels(1_048_577)));
-    assert_eq!(rt; context.levels(), 0);
-    assert!(rt; context.reserve_levels(1_048_575).is_ok());
-    assert!(rt; context.fresh_level(PLACE).is_ok());
-    assert_eq!(rt; context.levels(), 1_048_576);
-    assert!(rt;
-        matches!(
-            context.fresh_level(PLACE),
-            Err(TypeFault::Full {
-                of: Counted::Levels,
-                held: 1_048_576
-            })
-        )
-    );
-    let universe = universe(alloc, 0)?;
-    assert!(rt; is_full_of_levels(try_assume(&mut context, 10, &universe)));
-    assert_eq!(rt; context.universes().len(), 1);
-    Ok(())
-}
-
-fn is_full_of_levels(outcome: Result<(), TypeFault>) -> bool {
-    matches!(
-        outcome,
-        Err(TypeFault::Full {
-            of: Counted::Levels,
-            held: 1_048_576
-        })
+    let refusal = refused(alloc, infer(alloc, context, &applied))?;
+    hold(
+        refusal.cause == Cause::TooLarge { depth: 2_001 },
+        "the cause",
     )
 }
 
 #[test]
-fn a_name_in_use_goes_before_what_is_no_type(rt: HostRuntime) -> Result<(), Fail> {
-    let alloc = rt.alloc();
-    let mut context = fixture(alloc)?;
+fn a_type_that_is_too_deep_is_refused(rt: HostRuntime) -> Result<(), Fail> {
+    over_fixture(rt.alloc(), type_of_two_halves)
+}
+
+const FULL: Cause = Cause::Full {
+    of: Counted::Levels,
+    held: 1_048_576,
+};
+
+fn last_level(alloc: Global, context: &mut Context) -> Result<(), Fail> {
+    let too_many = refused(alloc, context.reserve_levels(1_048_577))?;
+    hold(too_many.cause == FULL, "too many are reserved")?;
+    hold(context.levels() == 0, "none is reserved")?;
+    accepted(context.reserve_levels(1_048_575))?;
+    accepted(context.fresh_level(PLACE))?;
+    hold(context.levels() == 1_048_576, "all are held")
+}
+
+fn no_level_is_left(alloc: Global, context: &mut Context) -> Result<(), Fail> {
+    last_level(alloc, context)?;
+    let fresh = refused(alloc, context.fresh_level(PLACE))?;
+    hold(fresh.cause == FULL, "one more")?;
+    let universe = universe(alloc, 0)?;
+    let assumed = refused(alloc, try_assume(context, 10, &universe))?;
+    hold(assumed.cause == FULL, "one more for an entry")?;
+    hold(context.universes().len() == 1, "the universes")
+}
+
+#[test]
+fn level_variables_end_at_1_048_576(rt: HostRuntime) -> Result<(), Fail> {
+    over_fixture(rt.alloc(), no_level_is_left)
+}
+
+fn name_in_use(alloc: Global, context: &mut Context) -> Result<(), Fail> {
     let proof = konst(alloc, 1)?;
-    let assumed = try_assume(&mut context, PROPOSITION, &proof);
-    assert!(rt; matches!(assumed, Err(TypeFault::NameInUse { at: 0 })));
-    let defined = try_define(&mut context, PROPOSITION, &proof, Some(&proof), AT);
-    assert!(rt; matches!(defined, Err(TypeFault::NameInUse { at: 0 })));
-    Ok(())
+    let assumed = refused(alloc, try_assume(context, PROPOSITION, &proof))?;
+    hold(assumed.cause == Cause::NameInUse { at: 0 }, "assumed")?;
+    let asked = try_define(context, PROPOSITION, &proof, Some(&proof), AT);
+    let defined = refused(alloc, asked)?;
+    hold(defined.cause == Cause::NameInUse { at: 0 }, "defined")
+}
+
+#[test]
+fn a_name_in_use_goes_before_what_is_no_type(rt: HostRuntime) -> Result<(), Fail> {
+    over_fixture(rt.alloc(), name_in_use)
 }
