@@ -45,12 +45,12 @@ pub(crate) fn refused<T: Drop>(
 ) -> Result<Refusal, Fail> {
     match outcome {
         Ok(_) => Err(Fail::new("accepted")),
-        Err(fault) => Ok(shown_and_dropped(alloc, fault)?),
+        Err(fault) => Ok(refusal_of(alloc, fault)?),
     }
 }
 
 /// What the fault shows. It is dropped here alone, since that is dear to prove.
-fn shown_and_dropped(alloc: Global, fault: TypeFault) -> Result<Refusal, AllocError> {
+fn refusal_of(alloc: Global, fault: TypeFault) -> Result<Refusal, AllocError> {
     shown(alloc, &fault)
 }
 
