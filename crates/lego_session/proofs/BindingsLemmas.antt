@@ -1,15 +1,14 @@
 -- Bindings made one after the other, and why one is refused.
-use Rattle.std.proofs.Common.{◌≡◌, ℕ, zero, suc, ◌+◌, ◌<◌, ◌≤◌, List, [], ◌∷◌, ◌++◌, map, take, drop, length, get_or, slice_get, Option, Some, None, option_map, Result, IfErr, refl, sym, ap, ◌∙◌, subst, inl, inr, arith}
+use Rattle.std.proofs.Common.{◌≡◌, ℕ, zero, suc, ◌+◌, ◌<◌, ◌≤◌, List, [], ◌∷◌, ◌++◌, map, take, drop, length, get_or, slice_get, Option, Some, option_map, Result, IfErr, refl, sym, ap, subst, inl, inr, arith}
 use Rattle.std.proofs.lemmas.List.{take_all}
 use Rattle.lego_base.specs.declared.place.Place.{Place}
 use Rattle.lego_term.specs.Trees.{Core}
 use Rattle.lego_term.specs.declared.binder.Mark.{Mark}
 use Rattle.lego_grammar.specs.Surface.{written, written_kind, written_binding}
-use Rattle.lego_grammar.specs.Written.{Written, WrittenKind, WrittenBinding, Assumed, Defined}
+use Rattle.lego_grammar.specs.Written.{Written, WrittenKind, WrittenBinding, Defined}
 use Rattle.lego_grammar.specs.declared.command.Binding.{Binding}
 use Rattle.lego_grammar.specs.declared.command.BindingKind.TheVariants.{Define}
 use Rattle.lego_grammar.specs.declared.surface.Surface.{Surface}
-use Rattle.lego_inference.specs.declared.entry.Entry.{Entry as Item}
 use Rattle.lego_context.specs.Contexts.{Contents}
 use Rattle.lego_reading.specs.Universes.{with_types_of}
 use Rattle.lego_session.specs.commands.Bindings.{AreNew, AssumesAll, ReadsDefinition, MakesEntries, Binds, BindsAll, IsBindingRefused, AreRefused}

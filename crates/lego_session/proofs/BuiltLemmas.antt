@@ -1,11 +1,11 @@
 -- Whether the runs of arguments and projections of the code have implicit marks.
-use Rattle.std.proofs.Common.{◌≡◌, ℕ, zero, suc, ◌+◌, ◌<◌, ◌≤◌, Bool, true, false, ◌&&◌, List, [], ◌∷◌, ◌++◌, map, take, length, get_or, refl, sym, ap, ap₂, ◌∙◌, subst, arith}
+use Rattle.std.proofs.Common.{◌≡◌, ℕ, ◌+◌, ◌<◌, ◌≤◌, Bool, true, false, ◌&&◌, List, [], ◌∷◌, map, take, length, get_or, refl, sym, ap, ◌∙◌}
 use Rattle.std.specs.List.{list_all}
 use Rattle.std.proofs.lemmas.List.{take_all}
 use Rattle.std.proofs.lemmas.List.Folds.{list_all_more}
 use Rattle.lego_term.specs.declared.binder.Mark.{Mark}
 use Rattle.lego_grammar.specs.Surface.{written, written_step, written_binding, written_kind, applied, projected}
-use Rattle.lego_grammar.specs.Written.{Written, Bindings}
+use Rattle.lego_grammar.specs.Written.{Written}
 use Rattle.lego_grammar.specs.declared.surface.Surface.{Surface}
 use Rattle.lego_grammar.specs.declared.surface.Surface.TheOpen as level
 use Rattle.lego_grammar.specs.declared.surface.Surface.TheVariants as surface

@@ -1,5 +1,5 @@
 -- The entries of a binding, and why they are refused.
-use Rattle.std.proofs.Common.{◌≡◌, ℕ, List, [], ◌∷◌, ◌++◌, Option, Some, None, Result, Ok, Err, OnOk, IfOk, IfErr, refl, sym, ap, ◌∙◌, subst, inl, inr, arith}
+use Rattle.std.proofs.Common.{◌≡◌, ℕ, List, [], ◌∷◌, Option, Some, None, Result, Ok, Err, OnOk, IfOk, IfErr, refl, sym, ap, ◌∙◌, subst, inr, arith}
 use Rattle.lego_base.specs.declared.place.Place.{Place}
 use Rattle.lego_term.specs.Trees.{Core}
 use Rattle.lego_term.specs.declared.binder.Mark.{Mark}
@@ -8,7 +8,7 @@ use Rattle.lego_inference.specs.declared.entry.At.{At}
 use Rattle.lego_inference.specs.declared.entry.Entry.{Entry as Item}
 use Rattle.lego_inference.specs.declared.fault.TypeFault.{TypeFault}
 use Rattle.lego_context.specs.Causes.{AddFails}
-use Rattle.lego_context.specs.Changes.{IsDefined, body_task}
+use Rattle.lego_context.specs.Changes.{body_task}
 use Rattle.lego_context.specs.Contexts.{Contents}
 use Rattle.lego_context.specs.Entries.{position_of}
 use Rattle.lego_reading.specs.Calls.{IsCoreOf}
@@ -16,7 +16,7 @@ use Rattle.lego_reading.specs.Universes.{with_types_of}
 use Rattle.lego_session.specs.Causes.{cause_of}
 use Rattle.lego_session.specs.commands.Bindings.{IsNew, AreNew, AssumesAll, ReadsDefinition, MakesEntries, AreEntriesRefused}
 use Rattle.lego_session.specs.commands.Bindings as steps
-use Rattle.lego_session.specs.private.Binding.{Extends, IsOverContext, IsUnreadAt, EntriesFail, IsNotAssumed}
+use Rattle.lego_session.specs.private.Binding.{IsOverContext, IsUnreadAt, EntriesFail, IsNotAssumed}
 use Rattle.lego_session.specs.declared.refusal.Cause.{Cause}
 use Rattle.lego_session.specs.declared.refusal.Reason.{Reason}
 use Rattle.lego_session.proofs.ExtendLemmas.{types-entries, extends-types, over-more}

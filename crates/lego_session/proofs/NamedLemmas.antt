@@ -1,15 +1,14 @@
 -- Entries that are no holes have names, and are found by names and numbers.
-use Rattle.std.proofs.Common.{◌≡◌, ℕ, zero, suc, ◌+◌, ◌<◌, ◌≤◌, nat_eq, nat_lt, if◌then◌else◌, Bool, true, false, ◌||◌, List, [], ◌∷◌, take, drop, length, position, Option, Some, None, option_map, option_and_then, refl, sym, ap, ◌∙◌, subst, arith, length-take}
-use Rattle.std.specs.Prelude.{All, is_some, slice_get}
+use Rattle.std.proofs.Common.{◌≡◌, ℕ, zero, suc, ◌≤◌, nat_eq, nat_lt, if◌then◌else◌, Bool, true, false, ◌||◌, List, [], ◌∷◌, take, drop, length, Option, Some, None, option_map, option_and_then, refl, sym, ap, ◌∙◌, arith, length-take}
+use Rattle.std.specs.Prelude.{All, is_some}
 use Rattle.std.specs.List.{list_any}
 use Rattle.std.proofs.lemmas.Bool.Decides.{nat_tests}
 use Rattle.std.proofs.lemmas.List.Elements.{All-head, All-tail, All-take, All-drop, All-nil, All-cons}
-use Rattle.lego_laws.specs.Entries.{entry_of}
 use Rattle.lego_term.specs.Trees.{Core}
 use Rattle.lego_inference.specs.declared.entry.Entry.{Entry as Item}
 use Rattle.lego_inference.specs.declared.entry.EntryKind.{EntryKind}
 use Rattle.lego_inference.specs.declared.entry.EntryKind.TheVariants.{Assumed, Defined, Hole, Filled}
-use Rattle.lego_inference.specs.Entries.{laws_entry, laws_entries, numbers_of}
+use Rattle.lego_inference.specs.Entries.{laws_entries, numbers_of}
 use Rattle.lego_context.specs.Entries.{is_named, position_of, place_of_number, names_of, FitsKind, IsEntry, IsNoHole, HasNoHole}
 use Rattle.lego_context.proofs.NameLemmas.{position-cons}
 use Rattle.lego_print.specs.Developments.{name_in}

@@ -1,22 +1,22 @@
 -- What is kept of the bytes behind the last command, when more bytes come.
-use Rattle.std.proofs.Common.{◌≡◌, ℕ, zero, suc, ◌+◌, ◌-◌, ◌<◌, ◌≤◌, min, Bool, true, false, nat_eq, nat_lt, List, [], ◌∷◌, ◌++◌, length, take, drop, Option, Some, None, refl, sym, ap, ◌∙◌, subst, arith, append-nil, append_assoc, length-append, length-drop}
+use Rattle.std.proofs.Common.{◌≡◌, ℕ, zero, suc, ◌+◌, ◌-◌, ◌<◌, ◌≤◌, min, Bool, true, false, nat_lt, List, [], ◌∷◌, ◌++◌, length, take, drop, Option, Some, None, refl, sym, ap, ◌∙◌, subst, arith, append-nil, append_assoc, length-append, length-drop}
 use Rattle.std.specs.Prelude.{if◌then◌else◌}
 use Rattle.std.proofs.Math.Seq.{take-append_seam, drop-append_seam}
 use Rattle.std.proofs.lemmas.List.{take-append-le, drop-append-le, take-append-drop, take_all}
 use mathlib.Core.Bool.{true≢false}
-use Rattle.lego_base.specs.Place.{past, behind}
+use Rattle.lego_base.specs.Place.{behind}
 use Rattle.lego_base.specs.declared.place.Place.{Place}
 use Rattle.lego_base.proofs.PlaceLemmas.{behind-append}
 use Rattle.lego_lexer.specs.Bytes.{Gap, BeginsToken, IsOpenComment, begins_comment, behind_comments}
-use Rattle.lego_lexer.specs.Commands.{Unbroken, First, Begins, Cuts, Ending, Whole, Unended, OpenComment, IsCut, command_cut, cut_of}
-use Rattle.lego_lexer.specs.Cutter.{Stands, HasStarted, EndsIn}
+use Rattle.lego_lexer.specs.Commands.{Unbroken, First, Begins, Cuts, Whole, Unended, OpenComment, IsCut, command_cut, cut_of}
+use Rattle.lego_lexer.specs.Cutter.{HasStarted, EndsIn}
 use Rattle.lego_lexer.specs.declared.limits.TheConstants.{MAX_COMMAND}
 use Rattle.lego_lexer.specs.declared.token.Cut as Code
 use Rattle.lego_lexer.specs.declared.token.Cut.TheVariants as Cut
 use Rattle.lego_lexer.proofs.Fronts.{parts}
 use Rattle.lego_lexer.proofs.UniqueGaps.{due_end, due_token, due_open, same_gap, ends_before, drop_before}
 use Rattle.lego_lexer.proofs.UniqueCuts.{cuts_unique}
-use Rattle.lego_session.specs.private.Pending.{IsNear, place_before, IsKept, IsMarked, IsStart, IsPending, HasEndedHere, range_of}
+use Rattle.lego_session.specs.private.Pending.{place_before, IsKept, IsMarked, IsStart, IsPending, HasEndedHere, range_of}
 use Rattle.lego_session.specs.declared.pending.Pending.{Pending}
 
 no_token : BeginsToken [] → ⊥

@@ -14,12 +14,12 @@ use Rattle.lego_lexer.proofs.Fronts.{parts, text_is}
 use Rattle.lego_words.specs.declared.options.Options.{Options}
 use Rattle.lego_session.specs.Answers.{Answers}
 use Rattle.lego_session.specs.Names.{IsKnownSession}
-use Rattle.lego_session.specs.Runs.{answers_text, some_refused, ends_early}
+use Rattle.lego_session.specs.Runs.{answers_text, ends_early}
 use Rattle.lego_session.specs.Step.{Reply}
 use Rattle.lego_session.specs.Texts.{first_place}
 use Rattle.lego_session.specs.private.Pending.{IsNear, IsPending, IsSomePending, HasEndedHere}
 use Rattle.lego_session.specs.private.Gathered.{Gathers, HasFailed}
-use Rattle.lego_session.specs.private.Progress.{Reached, HasAnswered, HasJustAnswered, HasAnsweredSome, MayGoOn, IsNext, IsFlow, IsStopped, IsHalted, IsPassed, IsEnded, IsCounted}
+use Rattle.lego_session.specs.private.Progress.{Reached, HasAnswered, HasJustAnswered, HasAnsweredSome, MayGoOn, IsNext, IsFlow, IsHalted, IsPassed, IsEnded, IsCounted}
 use Rattle.lego_session.specs.declared.pending.Pending.{Pending}
 use Rattle.lego_session.specs.declared.progress.Flow.{Flow}
 use Rattle.lego_session.specs.declared.progress.Next.{Next}

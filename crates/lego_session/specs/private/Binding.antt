@@ -24,7 +24,6 @@ use Rattle.lego_reading.specs.declared.fault.ReadFault.{ReadFault}
 use Rattle.lego_session.specs.Causes.{read_place, read_cause, cause_of}
 use Rattle.lego_session.specs.Texts.{AreEntryLines}
 use Rattle.lego_session.specs.commands.Bindings.{AreNew, FirstAreNew, IsNew, AssumesAll, ReadsDefinition, AreEntriesRefused, IsBindingRefused, AreRefused}
-use Rattle.lego_session.specs.declared.refusal.Cause.{Cause}
 use Rattle.lego_session.specs.declared.refusal.Cause.TheVariants.{Memory}
 use Rattle.lego_session.specs.declared.refusal.Reason.{Reason}
 

@@ -3,7 +3,7 @@ use Rattle.std.specs.Prelude.{◌≡◌, ℕ, ◌+◌, ◌-◌, ◌<◌, ◌≤�
 use Rattle.lego_base.specs.Place.{behind}
 use Rattle.lego_base.specs.declared.place.Place.{Place}
 use Rattle.lego_lexer.specs.Bytes.{Gap, BeginsToken, IsOpenComment}
-use Rattle.lego_lexer.specs.Commands.{Unbroken, First, Begins, Cuts, Ending, Whole, Unended, OpenComment}
+use Rattle.lego_lexer.specs.Commands.{Unbroken, First, Begins, Ending, Whole, Unended, OpenComment}
 use Rattle.lego_lexer.specs.Cutter.{Stands}
 use Rattle.lego_lexer.specs.declared.token.Cut as Code
 use Rattle.lego_lexer.specs.declared.token.Cut.TheVariants as Cut

@@ -1,5 +1,5 @@
 -- How far a run has come.
-use Rattle.std.specs.Prelude.{◌≡◌, ℕ, ◌+◌, ◌<◌, ◌≤◌, Bool, true, false, ◌||◌, ◌&&◌, List, [], ◌∷◌, ◌++◌, length, take, Option, Some, None}
+use Rattle.std.specs.Prelude.{◌≡◌, ℕ, ◌<◌, ◌≤◌, Bool, true, false, ◌||◌, ◌&&◌, List, [], ◌∷◌, ◌++◌, length, take, Option}
 use Rattle.std.specs.Io.KnownBytes.{Appends, Consumes}
 use Rattle.lego_base.specs.Bytes.{AppendsFront}
 use Rattle.lego_base.specs.Causes.{Rose}
@@ -12,7 +12,7 @@ use Rattle.lego_session.specs.Texts.{first_place}
 use Rattle.lego_session.specs.Sessions.{Session, empty_session, context_of}
 use Rattle.lego_session.specs.Runs.{Runs, answers_text, some_refused, Closes, IsClosing, is_ending_refused}
 use Rattle.lego_session.specs.Step.{Reply}
-use Rattle.lego_session.specs.private.Gathered.{Gathers, HasFailed}
+use Rattle.lego_session.specs.private.Gathered.{Gathers}
 use Rattle.lego_session.specs.private.Pending.{IsPending}
 use Rattle.lego_words.specs.declared.options.Options.{Options}
 use Rattle.lego_session.specs.declared.progress.Flow.{Flow}

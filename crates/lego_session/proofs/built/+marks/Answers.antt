@@ -1,4 +1,4 @@
-use Rattle.std.proofs.Common.{◌≡◌, refl, sym, ap, ◌∙◌}
+use Rattle.std.proofs.Common.{refl, sym, ap, ◌∙◌}
 use Rattle.lego_grammar.specs.Surface.{written}
 use Rattle.lego_session.specs.Reading.{has_plain_marks}
 use Rattle.lego_session.proofs.BuiltLemmas.{plain_function, marked_function, plain-Project, plain-more, plain-all}

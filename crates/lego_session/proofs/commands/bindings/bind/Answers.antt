@@ -1,11 +1,11 @@
-use Rattle.std.proofs.Common.{◌≡◌, ℕ, ◌<◌, ◌≤◌, List, [], ◌∷◌, map, take, length, slice_get, Option, Some, None, option_map, Result, Ok, Err, refl, sym, ap, ◌∙◌, subst, inl, inr, arith}
+use Rattle.std.proofs.Common.{ℕ, List, length, Option, Some, ap, ◌∙◌, subst, arith}
 use Rattle.std.proofs.lemmas.Option.{slice_get_within}
 use Rattle.lego_grammar.specs.Surface.{written_binding}
 use Rattle.lego_undo.specs.declared.state.State.{State}
 use Rattle.lego_session.specs.commands.Bindings.{AreNew}
 use Rattle.lego_session.specs.private.Binding.{IsFirstUsed}
 use Rattle.lego_session.proofs.BindingsLemmas.{in_use_fails}
-use Rattle.lego_session.proofs.ExtendLemmas.{extends-self, extends-same, has_extent, front_back}
+use Rattle.lego_session.proofs.ExtendLemmas.{extends-self, extends-same, front_back}
 use Rattle.lego_session.proofs.commands.bindings.bind.Goals as goal
 
 pub returns-in_default-clause-extends : goal.returns-in_default-clause-extends

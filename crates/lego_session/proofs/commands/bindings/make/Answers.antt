@@ -1,4 +1,4 @@
-use Rattle.std.proofs.Common.{◌≡◌, ℕ, List, option_map, sym, ap, ◌∙◌, subst}
+use Rattle.std.proofs.Common.{ℕ, List, option_map, sym, ap, ◌∙◌, subst}
 use Rattle.std.specs.Option.{option_copied}
 use Rattle.lego_grammar.specs.Surface.{written, written_binding, written_kind}
 use Rattle.lego_grammar.specs.Written.{Assumed, Defined}

@@ -1,4 +1,4 @@
-use Rattle.std.proofs.Common.{◌≡◌, ℕ, ◌<◌, ◌≤◌, List, [], ◌∷◌, map, take, length, get_or, slice_get, Option, Some, None, option_map, Result, Ok, Err, refl, sym, ap, ◌∙◌, subst, inl, inr, arith}
+use Rattle.std.proofs.Common.{get_or, refl, arith}
 use Rattle.lego_session.specs.commands.Bindings as steps
 use Rattle.lego_session.proofs.BindingLemmas.{item_at, name_new, assumed-more, not_assumed, assumed-all}
 use Rattle.lego_session.proofs.ExtendLemmas.{extends-self, extends-trans, extends-same, extends-assumed, no_hole-more, over-more}

@@ -1,4 +1,4 @@
-use Rattle.std.proofs.Common.{◌≡◌, ℕ, ◌<◌, ◌≤◌, List, [], ◌∷◌, map, take, length, slice_get, Option, Some, None, option_map, Result, Ok, Err, refl, sym, ap, ◌∙◌, subst, inl, inr, arith}
+use Rattle.std.proofs.Common.{[], ◌∷◌, option_map, subst}
 use Rattle.std.specs.Option.{option_copied}
 use Rattle.std.proofs.lemmas.Result.{err_from_is_err_and}
 use Rattle.lego_grammar.specs.Surface.{written}
@@ -6,7 +6,7 @@ use Rattle.lego_context.specs.Causes.{AddFails}
 use Rattle.lego_context.specs.Changes.{IsDefined, body_task}
 use Rattle.lego_session.specs.commands.Bindings as steps
 use Rattle.lego_session.proofs.EntriesLemmas.{define_fails, defined_new}
-use Rattle.lego_session.proofs.ExtendLemmas.{extends-trans, extends-defined, extends-same}
+use Rattle.lego_session.proofs.ExtendLemmas.{extends-trans, extends-defined}
 use Rattle.lego_session.proofs.ToldLemmas.{add_told}
 use Rattle.lego_session.proofs.commands.entries.define.Goals as goal
 

@@ -1,4 +1,4 @@
-use Rattle.std.proofs.Common.{◌≡◌, ◌+◌, ◌-◌, ◌++◌, [], ◌∙◌, ap, subst, sym, arith, length, min, take, drop}
+use Rattle.std.proofs.Common.{◌-◌, ◌++◌, [], ◌∙◌, ap, subst, sym, arith, length, min, take, drop}
 use Rattle.lego_session.specs.private.Pending.{IsKept, IsStart}
 use Rattle.lego_session.proofs.PendingLemmas.{keeps_on, keeps_anew, from_on}
 use Rattle.lego_session.proofs.GatheredLemmas.{on_ok-map}

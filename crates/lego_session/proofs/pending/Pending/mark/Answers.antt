@@ -1,4 +1,4 @@
-use Rattle.std.proofs.Common.{◌≡◌, ◌+◌, ◌++◌, ◌∙◌, ap, subst, sym, arith, length, min, ◌-◌}
+use Rattle.std.proofs.Common.{◌++◌, ◌∙◌, ap, subst, sym, arith, length, min, ◌-◌}
 use Rattle.lego_session.specs.private.Pending.{IsMarked}
 use Rattle.lego_session.proofs.PendingLemmas.{marks_none, marks_anew, marks_last, marks_on}
 use Rattle.lego_session.proofs.pending.Pending.mark.Goals as goal

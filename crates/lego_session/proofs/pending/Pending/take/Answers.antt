@@ -1,4 +1,4 @@
-use Rattle.std.proofs.Common.{◌≡◌, ◌+◌, ◌-◌, ◌++◌, ◌∙◌, ap, subst, sym, take, Some}
+use Rattle.std.proofs.Common.{◌-◌, ◌++◌, ◌∙◌, ap, subst, sym, take, Some}
 use Rattle.lego_base.specs.Place.{behind}
 use Rattle.lego_base.proofs.PlaceLemmas.{behind-append}
 use Rattle.lego_lexer.specs.Cutter.{Stands, EndsIn}

@@ -1,4 +1,4 @@
-use Rattle.std.proofs.Common.{◌≡◌, ◌+◌, ◌≤◌, ◌++◌, ◌||◌, ◌∙◌, [], ◌∷◌, length, take, subst, sym, ap, arith, append_assoc}
+use Rattle.std.proofs.Common.{◌++◌, ◌||◌, ◌∙◌, [], ◌∷◌, length, subst, ap, arith, append_assoc}
 use Rattle.lego_base.specs.Place.{behind}
 use Rattle.lego_session.specs.Texts.{first_place}
 use Rattle.lego_session.specs.private.Pending.{IsTaken, IsTakenWithin}

@@ -1,4 +1,4 @@
-use Rattle.std.proofs.Common.{◌≡◌, ◌∙◌, ◌++◌, ◌&&◌, ◌-◌, true, false, List, ℕ, length, take, drop, Option, refl, subst, arith}
+use Rattle.std.proofs.Common.{◌≡◌, ◌∙◌, ◌++◌, ◌&&◌, ◌-◌, true, List, ℕ, length, take, drop, Option, refl, subst, arith}
 use Rattle.lego_base.specs.Bytes.{AppendsFront}
 use Rattle.lego_session.specs.Step.{Reply}
 use Rattle.lego_session.specs.private.Gathered.{Gathers}

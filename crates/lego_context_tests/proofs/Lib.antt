@@ -1,0 +1,2 @@
+pub mod FixtureLemmas
+pub mod FrontLemmas
