@@ -3,7 +3,7 @@
 -- Goal n is printed `?n`. A hole that was inserted is printed `?` and the name of the product's binder for which it was
 -- inserted, `?x` where that has none. A hole applied to exactly its own hypotheses, the outermost locals in order, is printed
 -- without these arguments, and is then an atom of rank 3; further arguments follow as usual. A hole that isn't applied so is
--- printed as an atom, and its arguments follow as usual.
+-- printed as an atom, and its arguments follow as usual. Marks of the arguments don't matter for this.
 use Rattle.std.specs.Prelude.{ℕ, zero, suc, ◌+◌, nat_eq, Bool, true, false, ◌&&◌, List, [], ◌++◌, length, codes, decimal, Option, Some, None, option_map, unwrap_or}
 use Rattle.lego_term.specs.Trees.{Core, Var, Const, App}
 use Rattle.lego_grammar.specs.Grammar.{Names}

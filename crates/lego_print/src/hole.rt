@@ -1,4 +1,10 @@
-//! Holes that are applied to exactly their own hypotheses.
+//! The texts of holes.
+//!
+//! Goal n is printed `?n`; a hole that was inserted `?` and the name of the product's binder for
+//! which it was inserted, `?x` where that has none. A hole applied to exactly its own hypotheses,
+//! the outermost locals in order, is printed without these arguments, and is then an atom of rank
+//! 3; further arguments follow as usual. A hole that isn't applied so is printed as an atom, and
+//! its arguments follow as usual. Marks of the arguments don't matter for this.
 ghost use Rattle.std.specs.Prelude.{◌≡◌, ◌++◌, OnOk};
 ghost use Rattle.lego_print.specs.Holes.{called_text, is_local_at};
 ghost use Rattle.lego_print.specs.private.Numbered.{scope_of};
