@@ -132,3 +132,9 @@ module _ (es : List Entry) (limit : ℕ) where
   former_found s m h (Ok (Some found)) has e = subst (HasHead es s m) e has
   former_found s m h (Ok None) has unfit = λ w n a h' r p fit. unfit (all_pairs has.rule has.head r p fit)
   former_found s m h (Err fault) has e = HeadStops.part (memory_stops fault e)
+
+  -- a local definition by its body with the value put in
+  pub local_found : (s : Site) (x : Binder) (m b : Core) (r : Result (Option Core) TypeFault) → Finds es limit (behind (nodes m) s) (instantiate b m) r → Finds es limit s (Let x m b) r
+  local_found s x m b (Ok (Some a)) h = RuleType.local h
+  local_found s x m b (Ok None) h = local_none s x m b h
+  local_found s x m b (Err fault) h = stops_in (uses_local s x m b) h

@@ -1,5 +1,5 @@
 -- The parts from which a rule type is read can be looked at, and are less high.
-use Rattle.std.proofs.Common.{◌≡◌, ℕ, zero, suc, ◌+◌, ◌≤◌, ◌<◌, max, List, [], ◌∷◌, Ok, length, refl, sym, ap, subst, arith}
+use Rattle.std.proofs.Common.{◌≡◌, ℕ, zero, suc, ◌+◌, ◌≤◌, ◌<◌, max, None, List, [], ◌∷◌, Ok, length, refl, sym, ap, subst, arith}
 use Rattle.lego_term.specs.declared.binder.Binder.{Binder}
 use Rattle.lego_term.specs.declared.binder.Mark.{Mark}
 use Rattle.lego_term.specs.declared.binder.Mark.TheVariants.{Plain}
@@ -40,14 +40,17 @@ nodes_pi x a b = (nodes_are_counted x Plain 0 (variable_level 0) a b a a).4
 pub nodes_lam : (x : Binder) (a m : Core) → nodes (Lam x a m) ≡ nodes a + nodes m
 nodes_lam x a m = (nodes_are_counted x Plain 0 (variable_level 0) a a m m).5
 
-pub nodes_app : (k : Mark) (x : Binder) (m n : Core) → nodes (App k m n) ≡ nodes m + nodes n
-nodes_app k x m n = (nodes_are_counted x k 0 (variable_level 0) m m m n).6
+nameless : Binder
+nameless = record { name = None; mark = Plain }
 
-pub nodes_fst : (x : Binder) (m : Core) → nodes (Fst m) ≡ nodes m
-nodes_fst x m = (nodes_are_counted x Plain 0 (variable_level 0) m m m m).9
+pub nodes_app : (k : Mark) (m n : Core) → nodes (App k m n) ≡ nodes m + nodes n
+nodes_app k m n = (nodes_are_counted nameless k 0 (variable_level 0) m m m n).6
 
-pub nodes_snd : (x : Binder) (m : Core) → nodes (Snd m) ≡ nodes m
-nodes_snd x m = (nodes_are_counted x Plain 0 (variable_level 0) m m m m).10
+pub nodes_fst : (m : Core) → nodes (Fst m) ≡ nodes m
+nodes_fst m = (nodes_are_counted nameless Plain 0 (variable_level 0) m m m m).9
+
+pub nodes_snd : (m : Core) → nodes (Snd m) ≡ nodes m
+nodes_snd m = (nodes_are_counted nameless Plain 0 (variable_level 0) m m m m).10
 
 pub nodes_let : (x : Binder) (m b : Core) → nodes (Let x m b) ≡ nodes m + nodes (instantiate b m)
 nodes_let x m b = (nodes_are_counted x Plain 0 (variable_level 0) m m m b).11
@@ -67,17 +70,17 @@ pub placed_function_body : {es : List Entry} {s : Site} {x : Binder} {a b : Core
 placed_function_body {x = x} {a = a} {b = b} p =
     placed_part p (ready_part p.ready (Part.lam_body {w = Nothing})) (omega (arith, heights.lam x a b)) (omega (arith, weights.lam x a b)) (omega (arith, nodes_lam x a b))
 
-pub placed_applied : {es : List Entry} {s : Site} {k : Mark} {f m : Core} (x : Binder) → IsPlaced es s (App k f m) → IsPlaced es s f
-placed_applied {k = k} {f = f} {m = m} x p =
-    placed_part p (ready_part p.ready (Part.function {w = Nothing})) (omega (arith, heights.app k f m)) (omega (arith, weights.app k f m)) (omega (arith, nodes_app k x f m))
+pub placed_applied : {es : List Entry} {s : Site} {k : Mark} {f m : Core} → IsPlaced es s (App k f m) → IsPlaced es s f
+placed_applied {k = k} {f = f} {m = m} p =
+    placed_part p (ready_part p.ready (Part.function {w = Nothing})) (omega (arith, heights.app k f m)) (omega (arith, weights.app k f m)) (omega (arith, nodes_app k f m))
 
-pub placed_first : {es : List Entry} {s : Site} {m : Core} (x : Binder) → IsPlaced es s (Fst m) → IsPlaced es s m
-placed_first {m = m} x p =
-    placed_part p (ready_part p.ready (Part.fst_operand {w = Nothing})) (omega (arith, heights.fst m)) (omega (arith, weights.fst m)) (omega (arith, nodes_fst x m))
+pub placed_first : {es : List Entry} {s : Site} {m : Core} → IsPlaced es s (Fst m) → IsPlaced es s m
+placed_first {m = m} p =
+    placed_part p (ready_part p.ready (Part.fst_operand {w = Nothing})) (omega (arith, heights.fst m)) (omega (arith, weights.fst m)) (omega (arith, nodes_fst m))
 
-pub placed_second : {es : List Entry} {s : Site} {m : Core} (x : Binder) → IsPlaced es s (Snd m) → IsPlaced es s m
-placed_second {m = m} x p =
-    placed_part p (ready_part p.ready (Part.snd_operand {w = Nothing})) (omega (arith, heights.snd m)) (omega (arith, weights.snd m)) (omega (arith, nodes_snd x m))
+pub placed_second : {es : List Entry} {s : Site} {m : Core} → IsPlaced es s (Snd m) → IsPlaced es s m
+placed_second {m = m} p =
+    placed_part p (ready_part p.ready (Part.snd_operand {w = Nothing})) (omega (arith, heights.snd m)) (omega (arith, weights.snd m)) (omega (arith, nodes_snd m))
 
 pub placed_local_body : {es : List Entry} {s : Site} {x : Binder} {m b : Core} → IsPlaced es s (Let x m b) → IsPlaced es (behind (nodes m) s) (instantiate b m)
 placed_local_body {x = x} {m = m} {b = b} p =
