@@ -16,7 +16,7 @@ use Rattle.lego_inference.specs.Entries.{laws_entries, numbers_of}
 use Rattle.lego_context.specs.Entries.{constraints_of, names_of, HasNoHole, IsLeastFree, IsEntry}
 use Rattle.lego_context.specs.Contexts.{Contents, IsContext, AreFrontsValid, CanStandAlone, IsSmallEntry}
 use Rattle.lego_context.specs.Cutting.{CanBeCut, cut_of}
-use Rattle.lego_context.specs.private.Kept.{IsKept, with_name, places_from}
+use Rattle.lego_context.specs.private.Kept.{IsKept, places_from}
 use Rattle.lego_context.specs.private.Cuts.{without_name}
 use Rattle.lego_context.proofs.EntryLemmas.{constraints-push, append_none}
 use Rattle.lego_context.proofs.NameLemmas.{whole, names_split, places-append}
