@@ -1,5 +1,5 @@
 -- What it is for a printed development to denote its entries.
-use Rattle.std.specs.Prelude.{◌≡◌, ℕ, ◌<◌, ◌^◌, List, [], ◌∷◌, ◌++◌, All, Option, Some, None, IfSome, slice_get}
+use Rattle.std.specs.Prelude.{◌≡◌, ℕ, ◌<◌, ◌^◌, List, [], ◌∷◌, ◌++◌, All, Some, None, IfSome, slice_get}
 use Rattle.lego_base.specs.declared.place.Place.{Place}
 use Rattle.lego_term.specs.Levels.{Assignment, node_value}
 use Rattle.lego_term.specs.declared.binder.Mark.TheVariants.{Plain}
