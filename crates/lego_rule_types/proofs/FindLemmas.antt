@@ -138,3 +138,29 @@ module _ (es : List Entry) (limit : ℕ) where
   local_found s x m b (Ok (Some a)) h = RuleType.local h
   local_found s x m b (Ok None) h = local_none s x m b h
   local_found s x m b (Err fault) h = stops_in (uses_local s x m b) h
+
+  -- what a call found, by what its option is
+  pub some_found : (s : Site) (m : Core) (o : Option Core) (a : Core) → o ≡ Some a → Finds es limit s m (Ok o) → RuleTypeAt es s m a
+  some_found s m o a e h = subst (λ (z : Option Core). Finds es limit s m (Ok z)) e h
+
+  pub none_found : (s : Site) (m : Core) (o : Option Core) → o ≡ None → Finds es limit s m (Ok o) → HasNoRuleType es s.types m
+  none_found s m o e h = subst (λ (z : Option Core). Finds es limit s m (Ok z)) e h
+
+  pub some_head : (s : Site) (m : Core) (o : Option Core) (h : Core) → o ≡ Some h → FindsHead es limit s m (Ok o) → HasHead es s m h
+  some_head s m o h e f = subst (λ (z : Option Core). FindsHead es limit s m (Ok z)) e f
+
+  pub none_head : (s : Site) (m : Core) (o : Option Core) → o ≡ None → FindsHead es limit s m (Ok o) → HasNoRuleType es s.types m
+  none_head s m o e f = subst (λ (z : Option Core). FindsHead es limit s m (Ok z)) e f
+
+  pub some_pair : (s : Site) (m : Core) (o : Option Former) (f : Former) → o ≡ Some f → FindsFormer sigma_tree APair es limit s m (Ok o) → HasHead es s m (sigma_tree f)
+  some_pair s m o f e h = subst (λ (z : Option Former). FindsFormer sigma_tree APair es limit s m (Ok z)) e h
+
+  pub no_pair : (s : Site) (m : Core) (o : Option Former) → o ≡ None → FindsFormer sigma_tree APair es limit s m (Ok o) → HasNoFormer APair es s.types m
+  no_pair s m o e h = subst (λ (z : Option Former). FindsFormer sigma_tree APair es limit s m (Ok z)) e h
+
+-- what is in a head form
+pub some_in : (h : Core) (o : Option Former) (f : Former) → o ≡ Some f → IsIn product_tree AFunction h (Ok o) → h ≡ product_tree f
+some_in h o f e i = subst (λ (z : Option Former). IsIn product_tree AFunction h (Ok z)) e i
+
+pub none_in : (h : Core) (o : Option Former) → o ≡ None → IsIn product_tree AFunction h (Ok o) → Fulfils AFunction h → ⊥
+none_in h o e i = subst (λ (z : Option Former). IsIn product_tree AFunction h (Ok z)) e i

@@ -16,7 +16,7 @@ use Rattle.lego_rule_types.specs.Used.{IsUsed, IsHeadUsed}
 use Rattle.lego_rule_types.specs.Failures.{Stops}
 use Rattle.lego_rule_types.specs.Calls.{HasNoRuleType}
 use Rattle.lego_rule_types.specs.private.Finding.{IsPlaced, Finds, HeadStops, HasHead, FindsHead, FindsFormer, sigma_tree}
-use Rattle.lego_rule_types.proofs.FindLemmas.{at_site, stops_in, head_stops_in, memory_stops, made_some, made_err, rule_some, head_some, head_err, uses_product, uses_function, uses_applied, uses_first, uses_second, uses_local, product_found, product_none, function_none, applied_none, first_none, second_none, unfit_applied, none_pair, former_found, local_found}
+use Rattle.lego_rule_types.proofs.FindLemmas.{at_site, stops_in, head_stops_in, memory_stops, made_some, made_err, rule_some, head_some, head_err, uses_product, uses_function, uses_applied, uses_first, uses_second, uses_local, product_found, product_none, function_none, applied_none, first_none, second_none, unfit_applied, none_pair, former_found, local_found, some_found, none_found, some_head, none_head, some_pair, no_pair, some_in, none_in}
 use Rattle.lego_rule_types.proofs.PlacedLemmas.{nodes_pi, nodes_lam, nodes_let, placed_product_body, placed_function_body, placed_applied, placed_first, placed_second, placed_local_body, few_names, few_loose, few_loose_type, put_memory}
 use Rattle.lego_rule_types.proofs.rule.+rule.Goals as goal
 
@@ -27,12 +27,12 @@ head_at-returns-in_err-ty-clause-found t c =
 
 pub head_at-head_of-requires : goal.head_at-head_of-requires
 head_at-head_of-requires t c =
-    few_loose_type c.requires c.in-Some.ensures.found
+    few_loose_type c.requires (some_found (laws_entries c.args.setting.now.signature.now) c.args.setting.now.limit (site_of c.args.locals.now c.args.first) c.args.m.now _ c.in-Some.ty c.in-Some.is c.in_ok-ty.ensures.found)
 
 pub head_at-returns-in_err-form-clause-found : goal.head_at-returns-in_err-form-clause-found
 head_at-returns-in_err-form-clause-found t c =
     let e = err_from_is_err_and c.from_residual-in_err-form.result c.from_residual-in_err-form.ensures.1 in
-    rw (e.1, e.2) (head_err (laws_entries c.args.setting.now.signature.now) c.args.setting.now.limit (site_of c.args.locals.now c.args.first) c.args.m.now c.in-Some.ty c.in_err-form.field-0.0 c.in-Some.ensures.found (subst (λ (z : List Local). IsHeadOf (laws_entries c.args.setting.now.signature.now) c.args.setting.now.limit (binders_of z) c.in-Some.ty (Err c.in_err-form.field-0.0)) c.in-Some.ensures.kept c.in_err-form.ensures))
+    rw (e.1, e.2) (head_err (laws_entries c.args.setting.now.signature.now) c.args.setting.now.limit (site_of c.args.locals.now c.args.first) c.args.m.now c.in-Some.ty c.in_err-form.field-0.0 (some_found (laws_entries c.args.setting.now.signature.now) c.args.setting.now.limit (site_of c.args.locals.now c.args.first) c.args.m.now _ c.in-Some.ty c.in-Some.is c.in_ok-ty.ensures.found) (subst (λ (z : List Local). IsHeadOf (laws_entries c.args.setting.now.signature.now) c.args.setting.now.limit (binders_of z) c.in-Some.ty (Err c.in_err-form.field-0.0)) c.in_ok-ty.ensures.kept c.in_err-form.ensures))
 
 pub product_rule-returns-in_err-next-clause-found : goal.product_rule-returns-in_err-next-clause-found
 product_rule-returns-in_err-next-clause-found t c =
@@ -55,7 +55,7 @@ product_rule-returns-in_err-found-clause-found t c =
 
 pub product_rule-returns-in_default-clause-found : goal.product_rule-returns-in_default-clause-found
 product_rule-returns-in_default-clause-found t c =
-    product_none (laws_entries c.args.setting.now.signature.now) c.args.setting.now.limit (site_of c.args.locals.now c.args.first) c.args.binder c.args.domain.now c.args.body.now (at_site (λ z. HasNoRuleType (laws_entries c.args.setting.now.signature.now) z.types c.args.body.now) {l = c.push.new.self} {n = c.in_ok-next.next} c.in_ok-push.ensures.ok c.in_ok-next.ensures.ok c.in_ok-found.ensures.found)
+    product_none (laws_entries c.args.setting.now.signature.now) c.args.setting.now.limit (site_of c.args.locals.now c.args.first) c.args.binder c.args.domain.now c.args.body.now (none_head (laws_entries c.args.setting.now.signature.now) c.args.setting.now.limit (site_of (record { binder = c.args.binder; ty = c.args.domain.now } ∷ c.args.locals.now) (c.args.first + 1 + nodes c.args.domain.now)) c.args.body.now c.in_ok-found.found c.in_default.is (at_site (λ z. FindsHead (laws_entries c.args.setting.now.signature.now) c.args.setting.now.limit z c.args.body.now (Ok c.in_ok-found.found)) {l = c.push.new.self} {n = c.in_ok-next.next} c.in_ok-push.ensures.ok c.in_ok-next.ensures.ok c.in_ok-found.ensures.found))
 
 pub product_rule-returns-in_err-ty-clause-found : goal.product_rule-returns-in_err-ty-clause-found
 product_rule-returns-in_err-ty-clause-found t c =
@@ -64,7 +64,7 @@ product_rule-returns-in_err-ty-clause-found t c =
 
 pub product_rule-returns-clause-found : goal.product_rule-returns-clause-found
 product_rule-returns-clause-found t c =
-    product_found (laws_entries c.args.setting.now.signature.now) c.args.setting.now.limit (site_of c.args.locals.now c.args.first) c.args.binder c.args.domain.now c.args.body.now c.in-Some.sort c.in_ok-ty.ty (at_site (λ z. HasHead (laws_entries c.args.setting.now.signature.now) z c.args.body.now c.in-Some.sort) {l = c.push.new.self} {n = c.in_ok-next.next} c.in_ok-push.ensures.ok c.in_ok-next.ensures.ok c.in_ok-found.ensures.found) c.in_ok-ty.ensures.ok
+    product_found (laws_entries c.args.setting.now.signature.now) c.args.setting.now.limit (site_of c.args.locals.now c.args.first) c.args.binder c.args.domain.now c.args.body.now c.in-Some.sort c.in_ok-ty.ty (some_head (laws_entries c.args.setting.now.signature.now) c.args.setting.now.limit (site_of (record { binder = c.args.binder; ty = c.args.domain.now } ∷ c.args.locals.now) (c.args.first + 1 + nodes c.args.domain.now)) c.args.body.now c.in_ok-found.found c.in-Some.sort c.in-Some.is (at_site (λ z. FindsHead (laws_entries c.args.setting.now.signature.now) c.args.setting.now.limit z c.args.body.now (Ok c.in_ok-found.found)) {l = c.push.new.self} {n = c.in_ok-next.next} c.in_ok-push.ensures.ok c.in_ok-next.ensures.ok c.in_ok-found.ensures.found)) c.in_ok-ty.ensures.ok
 
 pub abstraction-returns-in_err-next-clause-found : goal.abstraction-returns-in_err-next-clause-found
 abstraction-returns-in_err-next-clause-found t c =
@@ -87,16 +87,16 @@ abstraction-returns-in_err-found-clause-found t c =
 
 pub abstraction-returns-in_default-clause-found : goal.abstraction-returns-in_default-clause-found
 abstraction-returns-in_default-clause-found t c =
-    function_none (laws_entries c.args.setting.now.signature.now) c.args.setting.now.limit (site_of c.args.locals.now c.args.first) c.args.binder c.args.domain.now c.args.body.now (at_site (λ z. HasNoRuleType (laws_entries c.args.setting.now.signature.now) z.types c.args.body.now) {l = c.push.new.self} {n = c.in_ok-next.next} c.in_ok-push.ensures.ok c.in_ok-next.ensures.ok c.in_ok-found.ensures.found)
+    function_none (laws_entries c.args.setting.now.signature.now) c.args.setting.now.limit (site_of c.args.locals.now c.args.first) c.args.binder c.args.domain.now c.args.body.now (none_found (laws_entries c.args.setting.now.signature.now) c.args.setting.now.limit (site_of (record { binder = c.args.binder; ty = c.args.domain.now } ∷ c.args.locals.now) (c.args.first + nodes c.args.domain.now)) c.args.body.now c.in_ok-found.found c.in_default.is (at_site (λ z. Finds (laws_entries c.args.setting.now.signature.now) c.args.setting.now.limit z c.args.body.now (Ok c.in_ok-found.found)) {l = c.push.new.self} {n = c.in_ok-next.next} c.in_ok-push.ensures.ok c.in_ok-next.ensures.ok c.in_ok-found.ensures.found))
 
 pub abstraction-returns-in_err-ty-clause-found : goal.abstraction-returns-in_err-ty-clause-found
 abstraction-returns-in_err-ty-clause-found t c =
     let e = err_from_is_err_and c.from_residual-in_err-ty.result c.from_residual-in_err-ty.ensures.1 in
-    rw (e.1, e.2) (made_err (laws_entries c.args.setting.now.signature.now) c.args.setting.now.limit (site_of c.args.locals.now c.args.first) (Lam c.args.binder c.args.domain.now c.args.body.now) (Pi c.args.binder c.args.domain.now c.in-Some.codomain) c.in_err-ty.field-0.0 (RuleType.lambda (at_site (λ z. RuleTypeAt (laws_entries c.args.setting.now.signature.now) z c.args.body.now c.in-Some.codomain) {l = c.push.new.self} {n = c.in_ok-next.next} c.in_ok-push.ensures.ok c.in_ok-next.ensures.ok c.in_ok-found.ensures.found)) c.in_err-ty.ensures)
+    rw (e.1, e.2) (made_err (laws_entries c.args.setting.now.signature.now) c.args.setting.now.limit (site_of c.args.locals.now c.args.first) (Lam c.args.binder c.args.domain.now c.args.body.now) (Pi c.args.binder c.args.domain.now c.in-Some.codomain) c.in_err-ty.field-0.0 (RuleType.lambda (some_found (laws_entries c.args.setting.now.signature.now) c.args.setting.now.limit (site_of (record { binder = c.args.binder; ty = c.args.domain.now } ∷ c.args.locals.now) (c.args.first + nodes c.args.domain.now)) c.args.body.now c.in_ok-found.found c.in-Some.codomain c.in-Some.is (at_site (λ z. Finds (laws_entries c.args.setting.now.signature.now) c.args.setting.now.limit z c.args.body.now (Ok c.in_ok-found.found)) {l = c.push.new.self} {n = c.in_ok-next.next} c.in_ok-push.ensures.ok c.in_ok-next.ensures.ok c.in_ok-found.ensures.found))) c.in_err-ty.ensures)
 
 pub abstraction-returns-clause-found : goal.abstraction-returns-clause-found
 abstraction-returns-clause-found t c =
-    made_some (laws_entries c.args.setting.now.signature.now) c.args.setting.now.limit (site_of c.args.locals.now c.args.first) (Lam c.args.binder c.args.domain.now c.args.body.now) (Pi c.args.binder c.args.domain.now c.in-Some.codomain) c.in_ok-ty.ty (RuleType.lambda (at_site (λ z. RuleTypeAt (laws_entries c.args.setting.now.signature.now) z c.args.body.now c.in-Some.codomain) {l = c.push.new.self} {n = c.in_ok-next.next} c.in_ok-push.ensures.ok c.in_ok-next.ensures.ok c.in_ok-found.ensures.found)) c.in_ok-ty.ensures
+    made_some (laws_entries c.args.setting.now.signature.now) c.args.setting.now.limit (site_of c.args.locals.now c.args.first) (Lam c.args.binder c.args.domain.now c.args.body.now) (Pi c.args.binder c.args.domain.now c.in-Some.codomain) c.in_ok-ty.ty (RuleType.lambda (some_found (laws_entries c.args.setting.now.signature.now) c.args.setting.now.limit (site_of (record { binder = c.args.binder; ty = c.args.domain.now } ∷ c.args.locals.now) (c.args.first + nodes c.args.domain.now)) c.args.body.now c.in_ok-found.found c.in-Some.codomain c.in-Some.is (at_site (λ z. Finds (laws_entries c.args.setting.now.signature.now) c.args.setting.now.limit z c.args.body.now (Ok c.in_ok-found.found)) {l = c.push.new.self} {n = c.in_ok-next.next} c.in_ok-push.ensures.ok c.in_ok-next.ensures.ok c.in_ok-found.ensures.found))) c.in_ok-ty.ensures
 
 pub application-returns-in_err-form-clause-found : goal.application-returns-in_err-form-clause-found
 application-returns-in_err-form-clause-found t c =
@@ -110,20 +110,20 @@ application-returns-in_err-former-clause-found t c =
 
 pub application-returns-in_default-2-clause-found : goal.application-returns-in_default-2-clause-found
 application-returns-in_default-2-clause-found t c =
-    unfit_applied (laws_entries c.args.setting.now.signature.now) c.args.setting.now.limit (site_of c.args.locals.now c.args.first) c.args.mark c.args.function.now c.args.argument.now c.in-Some.form c.in-Some.ensures.found c.in_ok-product_in.ensures
+    unfit_applied (laws_entries c.args.setting.now.signature.now) c.args.setting.now.limit (site_of c.args.locals.now c.args.first) c.args.mark c.args.function.now c.args.argument.now c.in-Some.form (some_head (laws_entries c.args.setting.now.signature.now) c.args.setting.now.limit (site_of c.args.locals.now c.args.first) c.args.function.now _ c.in-Some.form c.in-Some.is c.in_ok-form.ensures.found) (none_in c.in-Some.form _ c.in_default-2.is c.in_ok-former.ensures)
 
 pub application-returns-in_err-ty-clause-found : goal.application-returns-in_err-ty-clause-found
 application-returns-in_err-ty-clause-found t c =
     let e = err_from_is_err_and c.from_residual-in_err-ty.result c.from_residual-in_err-ty.ensures.1 in
-    rw (e.1, e.2) (made_err (laws_entries c.args.setting.now.signature.now) c.args.setting.now.limit (site_of c.args.locals.now c.args.first) (App c.args.mark c.args.function.now c.args.argument.now) (instantiate c.in-Some-2.former.body c.args.argument.now) c.in_err-ty.field-0.0 (RuleType.application c.in-Some.ensures.found.rule (subst (HeadForm (core_bodies (laws_entries c.args.setting.now.signature.now)) c.in-Some.ensures.found.ty) c.in-Some-2.ensures c.in-Some.ensures.found.head)) c.in_err-ty.ensures)
+    rw (e.1, e.2) (made_err (laws_entries c.args.setting.now.signature.now) c.args.setting.now.limit (site_of c.args.locals.now c.args.first) (App c.args.mark c.args.function.now c.args.argument.now) (instantiate c.in-Some-2.former.body c.args.argument.now) c.in_err-ty.field-0.0 (let has = (some_head (laws_entries c.args.setting.now.signature.now) c.args.setting.now.limit (site_of c.args.locals.now c.args.first) c.args.function.now _ c.in-Some.form c.in-Some.is c.in_ok-form.ensures.found) in RuleType.application has.rule (subst (HeadForm (core_bodies (laws_entries c.args.setting.now.signature.now)) has.ty) (some_in c.in-Some.form _ c.in-Some-2.former c.in-Some-2.is c.in_ok-former.ensures) has.head)) c.in_err-ty.ensures)
 
 pub application-returns-clause-found : goal.application-returns-clause-found
 application-returns-clause-found t c =
-    made_some (laws_entries c.args.setting.now.signature.now) c.args.setting.now.limit (site_of c.args.locals.now c.args.first) (App c.args.mark c.args.function.now c.args.argument.now) (instantiate c.in-Some-2.former.body c.args.argument.now) c.in_ok-ty.ty (RuleType.application c.in-Some.ensures.found.rule (subst (HeadForm (core_bodies (laws_entries c.args.setting.now.signature.now)) c.in-Some.ensures.found.ty) c.in-Some-2.ensures c.in-Some.ensures.found.head)) c.in_ok-ty.ensures
+    made_some (laws_entries c.args.setting.now.signature.now) c.args.setting.now.limit (site_of c.args.locals.now c.args.first) (App c.args.mark c.args.function.now c.args.argument.now) (instantiate c.in-Some-2.former.body c.args.argument.now) c.in_ok-ty.ty (let has = (some_head (laws_entries c.args.setting.now.signature.now) c.args.setting.now.limit (site_of c.args.locals.now c.args.first) c.args.function.now _ c.in-Some.form c.in-Some.is c.in_ok-form.ensures.found) in RuleType.application has.rule (subst (HeadForm (core_bodies (laws_entries c.args.setting.now.signature.now)) has.ty) (some_in c.in-Some.form _ c.in-Some-2.former c.in-Some-2.is c.in_ok-former.ensures) has.head)) c.in_ok-ty.ensures
 
 pub projected-returns-clause-found : goal.projected-returns-clause-found
 projected-returns-clause-found t c =
-    former_found (laws_entries c.args.setting.now.signature.now) c.args.setting.now.limit (site_of c.args.locals.now c.args.first) c.args.of.now c.in-Some.form c.sigma_in.result c.in-Some.ensures.found c.sigma_in.ensures
+    former_found (laws_entries c.args.setting.now.signature.now) c.args.setting.now.limit (site_of c.args.locals.now c.args.first) c.args.of.now c.in-Some.form c.sigma_in.result (some_head (laws_entries c.args.setting.now.signature.now) c.args.setting.now.limit (site_of c.args.locals.now c.args.first) c.args.of.now _ c.in-Some.form c.in-Some.is c.in_ok-form.ensures.found) c.sigma_in.ensures
 
 pub first_projection-returns-in_err-former-clause-found : goal.first_projection-returns-in_err-former-clause-found
 first_projection-returns-in_err-former-clause-found t c =
@@ -132,11 +132,11 @@ first_projection-returns-in_err-former-clause-found t c =
 
 pub first_projection-returns-in_default-clause-found : goal.first_projection-returns-in_default-clause-found
 first_projection-returns-in_default-clause-found t c =
-    first_none (laws_entries c.args.setting.now.signature.now) c.args.setting.now.limit (site_of c.args.locals.now c.args.first) c.args.of.now c.in_ok-projected.ensures.found
+    first_none (laws_entries c.args.setting.now.signature.now) c.args.setting.now.limit (site_of c.args.locals.now c.args.first) c.args.of.now (no_pair (laws_entries c.args.setting.now.signature.now) c.args.setting.now.limit (site_of c.args.locals.now c.args.first) c.args.of.now _ c.in_default.is c.in_ok-former.ensures.found)
 
 pub first_projection-returns-clause-found : goal.first_projection-returns-clause-found
 first_projection-returns-clause-found t c =
-    RuleType.first c.in-Some.ensures.found.rule c.in-Some.ensures.found.head
+    let has = (some_pair (laws_entries c.args.setting.now.signature.now) c.args.setting.now.limit (site_of c.args.locals.now c.args.first) c.args.of.now _ c.in-Some.former c.in-Some.is c.in_ok-former.ensures.found) in RuleType.first has.rule has.head
 
 pub second_projection-returns-in_err-former-clause-found : goal.second_projection-returns-in_err-former-clause-found
 second_projection-returns-in_err-former-clause-found t c =
@@ -145,16 +145,16 @@ second_projection-returns-in_err-former-clause-found t c =
 
 pub second_projection-returns-in_default-clause-found : goal.second_projection-returns-in_default-clause-found
 second_projection-returns-in_default-clause-found t c =
-    second_none (laws_entries c.args.setting.now.signature.now) c.args.setting.now.limit (site_of c.args.locals.now c.args.first) c.args.of.now c.in_ok-projected.ensures.found
+    second_none (laws_entries c.args.setting.now.signature.now) c.args.setting.now.limit (site_of c.args.locals.now c.args.first) c.args.of.now (no_pair (laws_entries c.args.setting.now.signature.now) c.args.setting.now.limit (site_of c.args.locals.now c.args.first) c.args.of.now _ c.in_default.is c.in_ok-former.ensures.found)
 
 pub second_projection-returns-in_err-ty-clause-found : goal.second_projection-returns-in_err-ty-clause-found
 second_projection-returns-in_err-ty-clause-found t c =
     let e = err_from_is_err_and c.from_residual-in_err-ty.result c.from_residual-in_err-ty.ensures.1 in
-    rw (e.1, e.2) (made_err (laws_entries c.args.setting.now.signature.now) c.args.setting.now.limit (site_of c.args.locals.now c.args.first) (Snd c.args.of.now) (instantiate c.in-Some.former.body (Fst c.args.of.now)) c.in_err-ty.field-0.0 (RuleType.second c.in-Some.ensures.found.rule c.in-Some.ensures.found.head) c.in_err-ty.ensures)
+    rw (e.1, e.2) (made_err (laws_entries c.args.setting.now.signature.now) c.args.setting.now.limit (site_of c.args.locals.now c.args.first) (Snd c.args.of.now) (instantiate c.in-Some.former.body (Fst c.args.of.now)) c.in_err-ty.field-0.0 (let has = (some_pair (laws_entries c.args.setting.now.signature.now) c.args.setting.now.limit (site_of c.args.locals.now c.args.first) c.args.of.now _ c.in-Some.former c.in-Some.is c.in_ok-former.ensures.found) in RuleType.second has.rule has.head) c.in_err-ty.ensures)
 
 pub second_projection-returns-clause-found : goal.second_projection-returns-clause-found
 second_projection-returns-clause-found t c =
-    made_some (laws_entries c.args.setting.now.signature.now) c.args.setting.now.limit (site_of c.args.locals.now c.args.first) (Snd c.args.of.now) (instantiate c.in-Some.former.body (Fst c.args.of.now)) c.in_ok-ty.ty (RuleType.second c.in-Some.ensures.found.rule c.in-Some.ensures.found.head) c.in_ok-ty.ensures
+    made_some (laws_entries c.args.setting.now.signature.now) c.args.setting.now.limit (site_of c.args.locals.now c.args.first) (Snd c.args.of.now) (instantiate c.in-Some.former.body (Fst c.args.of.now)) c.in_ok-ty.ty (let has = (some_pair (laws_entries c.args.setting.now.signature.now) c.args.setting.now.limit (site_of c.args.locals.now c.args.first) c.args.of.now _ c.in-Some.former c.in-Some.is c.in_ok-former.ensures.found) in RuleType.second has.rule has.head) c.in_ok-ty.ensures
 
 pub local-returns-in_err-next-clause-found : goal.local-returns-in_err-next-clause-found
 local-returns-in_err-next-clause-found t c =
