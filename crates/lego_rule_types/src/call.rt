@@ -30,6 +30,8 @@ pub fn rule_type(
     requires term { IsTermOver signature.now locals.now levels m.now }
     ensures { FindsRuleType (laws_entries signature.now) (site_of locals.now levels) m.now asked result }
 {
+    // No entry has a loose variable.
+    let _bodies = signature.bodies();
     measure(alloc, m)?;
     let behind = counted_behind(alloc, m, levels)?;
     let setting = Setting {
