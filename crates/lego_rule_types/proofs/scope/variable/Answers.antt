@@ -1,4 +1,5 @@
-use Rattle.std.proofs.Common.{◌≡◌, List, Some, slice_get, length, arith}
+use Rattle.std.proofs.Common.{◌≡◌, ◌+◌, ◌∙◌, suc, ap, List, Some, slice_get, length, arith}
+use Rattle.lego_term.specs.Trees.{lift}
 use Rattle.lego_inference.specs.declared.locals.Local.{Local}
 use Rattle.lego_inference.specs.Locals.{types_of}
 use Rattle.lego_inference.proofs.LocalLemmas.{local_scoped, length-map}
@@ -15,8 +16,9 @@ lift-requires c =
     omega arith
 
 pub returns-in-Ok-clause-ok : goal.returns-in-Ok-clause-ok
-returns-in-Ok-clause-ok c = (
-  c.get.result.1.now,
-  local_at (λ (l : Local). l.ty) c.args.locals.now c.args.index c.len.result (record { binder = c.get.result.0; ty = c.get.result.1.now }) c.len.ensures.exact c.requires.within c.get.ensures,
-  c.in-Ok.ensures.ok,
-)
+returns-in-Ok-clause-ok c =
+    let next : c.args.index + 1 ≡ suc c.args.index = omega arith in (
+      c.get.result.1.now,
+      local_at (λ (l : Local). l.ty) c.args.locals.now c.args.index c.len.result (record { binder = c.get.result.0; ty = c.get.result.1.now }) c.len.ensures.exact c.requires.within c.get.ensures,
+      c.in-Ok.ensures.ok ∙ ap (λ n. lift 0 n c.get.result.1.now) next,
+    )
