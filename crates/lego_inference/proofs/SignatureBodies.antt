@@ -11,13 +11,26 @@ use Rattle.lego_laws.specs.Entries.{Entry, entry_of, core_bodies}
 use Rattle.lego_level.specs.declared.constraint.Constraint.{Constraint}
 use Rattle.lego_level.specs.Graphs.{Differ}
 use Rattle.lego_inference.specs.declared.entry.Entry.{Entry as Item}
+use Rattle.lego_inference.specs.declared.entry.EntryKind.TheVariants.{Filled}
 use Rattle.lego_inference.specs.Entries.{laws_entry, laws_entries, numbers_of, filled, filled_at, AreClosedEntries}
 use Rattle.lego_inference.proofs.SignatureLemmas.{same_test}
 use Rattle.lego_inference.proofs.SignatureLists.{number_at}
 use Rattle.lego_inference.proofs.SignatureOrders.{entry_listed, differ_of}
 
+any_default : {X : Type 0} (xs : List X) (i : ℕ) (d d' : X) → i < length xs → get_or xs i d ≡ get_or xs i d'
+any_default [] i d d' l = absurd (omega (arith, l))
+any_default (x ∷ xs) zero d d' l = refl
+any_default (x ∷ xs) (suc i) d d' l = any_default xs i d d' (omega (arith, l))
+
 module _ (body : Core) (more : List Constraint) where
-  filled_is : (es : List Item) (at : ℕ) (e : Item) → at < length es → e ≡ get_or es at e → filled_at es at body more ≡ set es at (filled e body more)
+  -- the entry whose fields are written
+  pub written_is : (es : List Item) (at : ℕ) (e w : Item) (b : Core) (ms : List Constraint) → at < length es → e ≡ get_or es at e → w ≡ get_or es at w → b ≡ body → ms ≡ e.constraints ++ more
+      → set es at (record { number = w.number; name = w.name; mark = w.mark; kind = Filled; ty = w.ty; body = Some b; hypotheses = w.hypotheses; constraints = ms }) ≡ set es at (filled e body more)
+  written_is es at e w b ms l is was same made =
+      let one : w ≡ e = was ∙ any_default es at w e l ∙ sym is in
+      rw (one, same, made) refl
+
+  pub filled_is : (es : List Item) (at : ℕ) (e : Item) → at < length es → e ≡ get_or es at e → filled_at es at body more ≡ set es at (filled e body more)
   filled_is [] at e l is = absurd (omega (arith, l))
   filled_is (x ∷ es) zero e l is = ap (λ (y : Item). filled y body more ∷ es) (sym is)
   filled_is (x ∷ es) (suc at) e l is = ap (λ (ys : List Item). x ∷ ys) (filled_is es at e (omega (arith, l)) is)

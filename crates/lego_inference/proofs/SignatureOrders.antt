@@ -5,7 +5,7 @@ use Rattle.std.specs.List.Sorted.{IsPermutation}
 use Rattle.std.proofs.lemmas.Bool.{false≢true}
 use Rattle.std.proofs.lemmas.Bool.Decides.{nat_tests}
 use Rattle.std.proofs.lemmas.List.{map-set}
-use Rattle.std.proofs.lemmas.List.Sorted.{IsPermutation-sym, IsPermutation-map, Contains-permutation}
+use Rattle.std.proofs.lemmas.List.Sorted.{IsPermutation-sym, IsPermutation-swap, IsPermutation-map, Contains-permutation}
 use Rattle.std.proofs.lemmas.Map.Keys.{IsDistinct-IsPermutation}
 use Rattle.std.proofs.Math.ListN.{get_or-map}
 use Rattle.std.proofs.Math.Path.{fun_ext}
@@ -141,3 +141,14 @@ numbers-swap (e ∷ es) i j =
 pub length-numbers : (es : List Item) → length (numbers_of es) ≡ length es
 length-numbers [] = refl
 length-numbers (e ∷ es) = ap suc (length-numbers es)
+
+-- the signature with two neighbours exchanged
+pub exchanged_signature : (es all : List Item) (at : ℕ) (keys keys' : List ℕ) (bodies : BodyMap) → at + 1 < length es → all ≡ swap es at (at + 1) → keys' ≡ swap keys at (at + 1) → IsDistinct nat_eq keys'
+    → AreClosedEntries (laws_entries es) × (keys ≡ numbers_of es) × (bodies_in bodies ≡ core_bodies (laws_entries es))
+    → AreClosedEntries (laws_entries all) × (keys' ≡ numbers_of all) × (bodies_in bodies ≡ core_bodies (laws_entries all))
+exchanged_signature es all at keys keys' bodies within whole made apart old =
+    let moved : IsPermutation es all = IsPermutation-swap es all at (at + 1) (omega arith) within whole in
+    let now : keys' ≡ numbers_of all = made ∙ ap (λ ks. swap ks at (at + 1)) old.1 ∙ sym (numbers-swap es at (at + 1)) ∙ ap numbers_of (sym whole) in
+    let d' : Differ (numbers_of all) = differ_of (numbers_of all) (subst (IsDistinct nat_eq) now apart) in
+    let d : Differ (numbers_of es) = differ_permuted all es (IsPermutation-sym es all moved) d' in
+    permuted_signature es all moved d d' keys keys' bodies now old

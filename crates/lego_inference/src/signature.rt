@@ -179,6 +179,7 @@ impl Signature {
         more: &[Constraint],
     ) -> Result<(), AllocError>
         requires within { at < length self.old }
+        requires numbers { Differ (numbers_of self.old) }
         requires closed { loose body.now ≡ 0 }
         ensures ok { OnOk result (self.new ≡ filled_at self.old at body.now more.now) }
         ensures err { OnErr result (self.new ≡ self.old) }
