@@ -2,7 +2,7 @@
 use Rattle.std.proofs.Common.{◌≡◌, ℕ, zero, suc, Option, Some, option_map, List, refl, sym, ap, ◌∙◌, subst}
 use Rattle.lego_term.specs.declared.binder.Binder.{Binder}
 use Rattle.lego_term.specs.declared.binder.Mark.{Mark}
-use Rattle.lego_term.specs.Trees.{Tree, Core, Bodies, Var, Const, Prop, Univ, Pi, Lam, App, Sigma, Pair, Fst, Snd, Let, map_tree, lift, instantiate}
+use Rattle.lego_term.specs.Trees.{Tree, Core, Bodies, Prop, Pi, Sigma, Fst, map_tree, lift, instantiate}
 use Rattle.lego_term.specs.Sequences.{head_step, after, HeadForm}
 use Rattle.lego_laws.specs.Parallel.{CoreBodies}
 use Rattle.lego_laws.specs.Entries.{Entry, core_bodies}

@@ -1,5 +1,5 @@
 -- What the call answers of a whole term.
-use Rattle.std.proofs.Common.{◌≡◌, ℕ, ◌+◌, ◌≤◌, ◌<◌, ◌⊎◌, List, [], Some, Ok, Err, refl, sym, ap, subst, ⊎_elim, arith}
+use Rattle.std.proofs.Common.{◌≡◌, ℕ, ◌+◌, ◌≤◌, ◌<◌, List, [], Ok, Err, sym, subst, ⊎_elim, arith}
 use Rattle.lego_term.specs.declared.fault.TermFault.{TermFault}
 use Rattle.lego_term.specs.declared.fault.TermFault.TheVariants as term
 use Rattle.lego_term.specs.declared.weight.Extent.{Extent}
@@ -8,7 +8,6 @@ use Rattle.lego_term.specs.Weight.{IsMeasured}
 use Rattle.lego_laws.specs.Entries.{Entry}
 use Rattle.lego_laws.specs.Places.{Site, RuleTypeAt}
 use Rattle.lego_laws.specs.RuleTypes.{nodes}
-use Rattle.lego_level.specs.declared.constraint.Constraint.{Constraint}
 use Rattle.lego_inference.specs.declared.entry.Entry.{Entry as Item}
 use Rattle.lego_inference.specs.declared.entry.Judged.{Judged}
 use Rattle.lego_inference.specs.declared.fault.Counted.TheVariants.{Levels}
@@ -19,7 +18,7 @@ use Rattle.lego_inference.specs.Calls.{AreHeld, IsTermOver}
 use Rattle.lego_inference.specs.Entries.{laws_entries, AreClosedEntries}
 use Rattle.lego_inference.specs.Locals.{site_of, types_of, IsOver}
 use Rattle.lego_inference.specs.private.Faults.{of_term}
-use Rattle.lego_inference.proofs.CallLemmas.{type_over, judged_is}
+use Rattle.lego_inference.proofs.CallLemmas.{type_over}
 use Rattle.lego_rule_types.specs.Failures.{Stops, RuleTypeFails}
 use Rattle.lego_rule_types.specs.Calls.{IsRuleType}
 use Rattle.lego_rule_types.specs.private.Counting.{IsBehind}

@@ -1,12 +1,11 @@
 -- A search that stops at a part stops at the whole; and what a term's rule type is, or that it has none, by those of its parts.
-use Rattle.std.proofs.Common.{◌≡◌, ℕ, suc, ◌+◌, ◌≤◌, ◌⊎◌, List, ◌∷◌, Option, Some, None, Result, Ok, Err, IfOk, IfErr, OnOk, slice_get, refl, sym, ap, subst, ⊎_elim}
+use Rattle.std.proofs.Common.{◌≡◌, ℕ, List, ◌∷◌, Option, Some, None, Result, Ok, Err, sym, subst, ⊎_elim}
 use Rattle.lego_term.specs.declared.binder.Binder.{Binder}
 use Rattle.lego_term.specs.declared.binder.Mark.{Mark}
-use Rattle.lego_term.specs.declared.level.Level.{Level}
-use Rattle.lego_term.specs.Levels.{fixed_level, variable_level}
-use Rattle.lego_term.specs.Trees.{Core, Var, Const, Prop, Univ, Pi, Lam, App, Sigma, Pair, Fst, Snd, Let, lift, instantiate}
+use Rattle.lego_term.specs.Levels.{variable_level}
+use Rattle.lego_term.specs.Trees.{Core, Prop, Univ, Pi, Lam, App, Fst, Snd, Let, instantiate}
 use Rattle.lego_term.specs.Sequences.{HeadForm}
-use Rattle.lego_laws.specs.Entries.{Entry, entry_of, core_bodies}
+use Rattle.lego_laws.specs.Entries.{Entry, core_bodies}
 use Rattle.lego_laws.specs.RuleTypes.{RuleType, nodes}
 use Rattle.lego_laws.specs.Places.{AFunction, APair, Fulfils, Site, behind, under, RuleTypeAt}
 use Rattle.lego_inference.specs.declared.fault.TypeFault.{TypeFault}

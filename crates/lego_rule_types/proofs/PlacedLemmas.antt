@@ -1,5 +1,5 @@
 -- The parts from which a rule type is read can be looked at, and are less high.
-use Rattle.std.proofs.Common.{◌≡◌, ℕ, zero, suc, ◌+◌, ◌≤◌, ◌<◌, max, None, List, [], ◌∷◌, Ok, length, refl, sym, ap, subst, arith}
+use Rattle.std.proofs.Common.{◌≡◌, ℕ, zero, suc, ◌+◌, ◌≤◌, ◌<◌, None, List, Ok, length, refl, arith}
 use Rattle.lego_term.specs.declared.binder.Binder.{Binder}
 use Rattle.lego_term.specs.declared.binder.Mark.{Mark}
 use Rattle.lego_term.specs.declared.binder.Mark.TheVariants.{Plain}
@@ -12,7 +12,7 @@ use Rattle.lego_term.specs.Made.{Fits}
 use Rattle.lego_term.proofs.WeightLemmas.{locals_count_instances}
 use Rattle.lego_laws.specs.Entries.{Entry}
 use Rattle.lego_laws.specs.RuleTypes.{nodes}
-use Rattle.lego_laws.specs.Places.{Nothing, AType, AFunction, APair, Site, behind, under, Part, RuleTypeAt}
+use Rattle.lego_laws.specs.Places.{Nothing, AType, Site, behind, under, Part, RuleTypeAt}
 use Rattle.lego_laws.proofs.lemmas.principal.Nodes.{nodes_are_counted}
 use Rattle.lego_laws.proofs.lemmas.principal.SolvedCores.{heights}
 use Rattle.lego_inference.specs.declared.entry.Entry.{Entry as Item}

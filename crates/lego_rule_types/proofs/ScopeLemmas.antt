@@ -1,5 +1,5 @@
 -- Lists of locals that are read from the outermost on.
-use Rattle.std.proofs.Common.{◌≡◌, ℕ, zero, suc, ◌+◌, ◌-◌, ◌≤◌, ◌<◌, List, [], ◌∷◌, ◌++◌, map, reverse, take, length, get_or, slice_get, Some, option_map, refl, sym, ap, ◌∙◌, subst, arith}
+use Rattle.std.proofs.Common.{◌≡◌, ℕ, zero, suc, ◌-◌, ◌≤◌, ◌<◌, List, [], ◌∷◌, ◌++◌, map, reverse, take, length, get_or, slice_get, Some, option_map, refl, sym, ap, ◌∙◌, subst, arith}
 use Rattle.std.proofs.Math.Seq.{take-suc}
 use Rattle.std.proofs.lemmas.List.{take_all, map-append, reverse-append, reverse-reverse, get_or-reverse, length-reverse}
 use Rattle.std.proofs.lemmas.Option.{slice_get_within, get_or_from_slice_get, slice_get-get_or, slice_get-map}
@@ -43,7 +43,7 @@ from_outermost f xs i x lt e =
     let at : length xs - 1 - i < length xs = omega arith in
     let back : length xs - 1 - (length xs - 1 - i) ≡ i = omega arith in
     let here : get_or xs i x ≡ x =
-        ap (λ n. get_or xs n x) (sym back) ∙ sym (get_or-reverse xs (length xs - 1 - i) x at) ∙ get_or_from_slice_get (reverse xs) (length xs - 1 - i) x x e in
+    ap (λ n. get_or xs n x) (sym back) ∙ sym (get_or-reverse xs (length xs - 1 - i) x at) ∙ get_or_from_slice_get (reverse xs) (length xs - 1 - i) x x e in
     slice_get-map f xs i ∙ ap (option_map f) (slice_get-get_or xs i x lt ∙ ap Some here)
 
 pub local_at : {X Y : Type 0} (f : X → Y) (xs : List X) (i n : ℕ) (x : X) → n ≡ length xs → i < length xs → slice_get (reverse xs) (n - 1 - i) ≡ Some x → slice_get (map f xs) i ≡ Some (f x)

@@ -54,20 +54,11 @@ fn shared(binder: Binder, domain: &Term, body: &Term) -> Result<Option<Former>, 
 }
 
 /// The head form of a rule type.
-pub(crate) fn head_of(
-    setting: &Setting<'_>,
-    locals: &Locals,
-    ty: &Term,
-) -> Result<Term, TypeFault>
+pub(crate) fn head_of(setting: &Setting<'_>, locals: &Locals, ty: &Term) -> Result<Term, TypeFault>
     requires { loose ty.now ≤ 65536 }
     ensures { IsHeadOf (laws_entries setting.now.signature.now) setting.now.limit (binders_of locals.now) ty.now result }
 {
-    match head(
-        setting.alloc,
-        setting.signature.bodies(),
-        ty,
-        setting.limit,
-    ) {
+    match head(setting.alloc, setting.signature.bodies(), ty, setting.limit) {
         Ok(reduced) => Ok(reduced.term),
         Err(ReduceFault::Budget) => {
             let left = seen(setting.alloc, locals, ty)?;

@@ -1,6 +1,6 @@
-use Rattle.std.proofs.Common.{◌≡◌, ◌+◌, ◌≤◌, List, [], ◌∷◌, ◌++◌, refl, ap, sym, ◌∙◌, arith}
+use Rattle.std.proofs.Common.{◌≡◌, [], ◌∷◌, ◌++◌, refl, ap, sym, ◌∙◌, arith}
 use Rattle.std.proofs.lemmas.Result.{err_from_is_err_and}
-use Rattle.lego_term.specs.Trees.{Core, Var, Const, Prop, Univ, Pi, Lam, App, Sigma, Pair, Fst, Snd, Let}
+use Rattle.lego_term.specs.Trees.{Pi, Lam, App, Sigma, Pair, Let}
 use Rattle.lego_rule_types.specs.private.Counting.{scope_of, nodes_in}
 use Rattle.lego_rule_types.proofs.NodeLemmas.{part_over, counted_as, same_count, var_count, app_count, fst_count, snd_count, prop_count, const_count, univ_count, pi_count, lam_count, sigma_count, pair_count, let_count, value_count}
 use Rattle.lego_rule_types.proofs.nodes.+nodes.Goals as goal

@@ -1,6 +1,5 @@
-use Rattle.std.proofs.Common.{arith, subst}
+use Rattle.std.proofs.Common.{arith}
 use Rattle.std.proofs.lemmas.Result.{err_from_is_err_and}
-use Rattle.lego_rule_types.specs.private.Counting.{IsCounted}
 use Rattle.lego_rule_types.proofs.NodeLemmas.{whole_nodes, whole_over, named_count}
 use Rattle.lego_rule_types.proofs.nodes.nodes.Goals as goal
 

@@ -1,23 +1,21 @@
-use Rattle.std.proofs.Common.{◌≡◌, ℕ, suc, ◌+◌, ◌∙◌, List, ◌∷◌, length, drop, Some, None, Ok, Err, refl, sym, ap, subst, arith}
+use Rattle.std.proofs.Common.{◌+◌, List, ◌∷◌, Some, Ok, Err, refl, sym, ap, subst, arith}
 use Rattle.std.proofs.lemmas.Result.{err_from_is_err_and}
-use Rattle.lego_term.specs.Trees.{Core, Var, Const, Prop, Univ, Pi, Lam, App, Sigma, Pair, Fst, Snd, Let, instantiate, loose}
+use Rattle.lego_term.specs.Trees.{Core, Var, Const, Prop, Univ, Pi, Lam, App, Sigma, Pair, Fst, Snd, instantiate}
 use Rattle.lego_term.specs.Weight.{height}
 use Rattle.lego_term.specs.Sequences.{HeadForm}
 use Rattle.lego_laws.specs.Entries.{core_bodies}
 use Rattle.lego_laws.specs.RuleTypes.{RuleType, nodes}
-use Rattle.lego_laws.specs.Places.{behind, under, RuleTypeAt}
+use Rattle.lego_laws.specs.Places.{behind}
 use Rattle.lego_laws.proofs.lemmas.principal.SolvedCores.{heights}
 use Rattle.lego_inference.specs.Entries.{laws_entries}
-use Rattle.lego_inference.specs.Locals.{site_of, types_of, binders_of, NamesEntries}
+use Rattle.lego_inference.specs.Locals.{site_of, binders_of}
 use Rattle.lego_inference.specs.declared.locals.Local.{Local}
 use Rattle.lego_inference.specs.private.Wanting.{IsHeadOf}
-use Rattle.lego_inference.proofs.LocalLemmas.{length-map}
 use Rattle.lego_rule_types.specs.Used.{IsUsed, IsHeadUsed}
 use Rattle.lego_rule_types.specs.Failures.{Stops}
-use Rattle.lego_rule_types.specs.Calls.{HasNoRuleType}
-use Rattle.lego_rule_types.specs.private.Finding.{IsPlaced, Finds, HeadStops, HasHead, FindsHead, FindsFormer, sigma_tree}
-use Rattle.lego_rule_types.proofs.FindLemmas.{at_site, stops_in, head_stops_in, memory_stops, made_some, made_err, rule_some, head_some, head_err, uses_product, uses_function, uses_applied, uses_first, uses_second, uses_local, product_found, product_none, function_none, applied_none, first_none, second_none, unfit_applied, none_pair, former_found, local_found, some_found, none_found, some_head, none_head, some_pair, no_pair, some_in, none_in}
-use Rattle.lego_rule_types.proofs.PlacedLemmas.{nodes_pi, nodes_lam, nodes_let, placed_product_body, placed_function_body, placed_applied, placed_first, placed_second, placed_local_body, few_names, few_loose, few_loose_type, put_memory}
+use Rattle.lego_rule_types.specs.private.Finding.{IsPlaced, Finds, HeadStops, FindsHead}
+use Rattle.lego_rule_types.proofs.FindLemmas.{at_site, stops_in, head_stops_in, memory_stops, made_some, made_err, rule_some, head_err, uses_product, uses_function, uses_applied, uses_first, uses_second, product_found, product_none, function_none, first_none, second_none, unfit_applied, former_found, local_found, some_found, none_found, some_head, none_head, some_pair, no_pair, some_in, none_in}
+use Rattle.lego_rule_types.proofs.PlacedLemmas.{placed_product_body, placed_function_body, placed_local_body, few_loose_type, put_memory}
 use Rattle.lego_rule_types.proofs.rule.+rule.Goals as goal
 
 pub head_at-returns-in_err-ty-clause-found : goal.head_at-returns-in_err-ty-clause-found

@@ -1,4 +1,4 @@
-use Rattle.std.proofs.Common.{◌+◌, ◌<◌, ◌∙◌, List, length, reverse, ap, arith}
+use Rattle.std.proofs.Common.{◌+◌, ◌∙◌, List, reverse, ap, arith}
 use Rattle.lego_inference.specs.declared.locals.Local.{Local}
 use Rattle.lego_rule_types.proofs.ScopeLemmas.{copied_next, copied_all, taken_length}
 use Rattle.lego_rule_types.proofs.scope.copy_of.Goals as goal

@@ -1,4 +1,4 @@
-use Rattle.std.proofs.Common.{◌≡◌, ◌+◌, ◌∙◌, suc, ap, List, Some, slice_get, length, arith}
+use Rattle.std.proofs.Common.{◌≡◌, ◌+◌, ◌∙◌, suc, ap, arith}
 use Rattle.lego_term.specs.Trees.{lift}
 use Rattle.lego_inference.specs.declared.locals.Local.{Local}
 use Rattle.lego_inference.specs.Locals.{types_of}
