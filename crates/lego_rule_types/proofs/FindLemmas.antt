@@ -70,9 +70,6 @@ module _ (es : List Entry) (limit : ℕ) where
   rule_some s m a ty r e = subst (RuleTypeAt es s m) (sym e) r
 
   -- the head form of a rule type, or that it is not found
-  pub head_some : (s : Site) (m a h : Core) → RuleTypeAt es s m a → IsHeadOf es limit s.binders a (Ok h) → FindsHead es limit s m (Ok (Some h))
-  head_some s m a h r p = record { ty = a; rule = r; head = p }
-
   pub head_err : (s : Site) (m a : Core) (fault : TypeFault) → RuleTypeAt es s m a → IsHeadOf es limit s.binders a (Err fault) → FindsHead es limit s m (Err fault)
   head_err s m a fault r p = lacking_stops s m a fault r p
 
@@ -108,9 +105,6 @@ module _ (es : List Entry) (limit : ℕ) where
   pub function_none : (s : Site) (x : Binder) (a b : Core) → HasNoRuleType es (a ∷ s.types) b → HasNoRuleType es s.types (Lam x a b)
   function_none s x a b none w n ty (RuleType.lambda r) = none w _ _ r
 
-  pub applied_none : (s : Site) (k : Mark) (f m : Core) → HasNoRuleType es s.types f → HasNoRuleType es s.types (App k f m)
-  applied_none s k f m none w n ty (RuleType.application r p) = none w _ _ r
-
   pub first_none : (s : Site) (m : Core) → HasNoFormer APair es s.types m → HasNoRuleType es s.types (Fst m)
   first_none s m none w n ty (RuleType.first r p) = none w _ _ _ r p Fulfils.a_pair
 
@@ -122,9 +116,6 @@ module _ (es : List Entry) (limit : ℕ) where
 
   pub unfit_applied : (s : Site) (k : Mark) (f m h : Core) → HasHead es s f h → (Fulfils AFunction h → ⊥) → HasNoRuleType es s.types (App k f m)
   unfit_applied s k f m h has unfit w n ty (RuleType.application r p) = unfit (all_functions has.rule has.head r p Fulfils.a_function)
-
-  pub none_pair : (s : Site) (m : Core) → HasNoRuleType es s.types m → HasNoFormer APair es s.types m
-  none_pair s m none w n a h r p fit = none w n a r
 
   -- what is found in the head form of a pair's rule type
   pub former_found : (s : Site) (m h : Core) (r : Result (Option Former) TypeFault) → HasHead es s m h → IsIn sigma_tree APair h r → FindsFormer sigma_tree APair es limit s m r

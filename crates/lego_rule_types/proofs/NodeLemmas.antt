@@ -120,9 +120,6 @@ pub value_count : (xs : List ℕ) (x : Binder) (m n : Core) → nodes_in xs m �
 unfolding nodes_in
 value_count xs x m n = omega arith
 
-none_scoped : (i : ℕ) → scope_of [] i ≡ 0
-none_scoped i = refl
-
 closed_nodes : (t : Core) → nodes_in [] t ≡ nodes t
 unfolding nodes_in
 closed_nodes t = refl

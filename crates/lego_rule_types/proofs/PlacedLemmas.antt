@@ -1,5 +1,5 @@
 -- The parts from which a rule type is read can be looked at, and are less high.
-use Rattle.std.proofs.Common.{◌≡◌, ℕ, zero, suc, ◌+◌, ◌≤◌, ◌<◌, None, List, Ok, length, refl, arith}
+use Rattle.std.proofs.Common.{◌≡◌, ℕ, zero, suc, ◌+◌, ◌≤◌, ◌<◌, List, Ok, refl, arith}
 use Rattle.lego_term.specs.declared.binder.Binder.{Binder}
 use Rattle.lego_term.specs.declared.binder.Mark.{Mark}
 use Rattle.lego_term.specs.declared.binder.Mark.TheVariants.{Plain}
@@ -24,7 +24,6 @@ use Rattle.lego_inference.specs.Entries.{laws_entries, AreClosedEntries}
 use Rattle.lego_inference.specs.Locals.{site_of}
 use Rattle.lego_inference.specs.private.Judging.{IsReady, MakingFails}
 use Rattle.lego_inference.proofs.CallLemmas.{ready_whole}
-use Rattle.lego_inference.proofs.LocalLemmas.{length-map}
 use Rattle.lego_inference.proofs.ReadyLemmas.{ready_part, loose_of}
 use Rattle.lego_inference.proofs.SizeLemmas.{too_large_differs}
 use Rattle.lego_rule_types.specs.private.Finding.{IsPlaced}
@@ -39,18 +38,6 @@ nodes_pi x a b = (nodes_are_counted x Plain 0 (variable_level 0) a b a a).4
 
 pub nodes_lam : (x : Binder) (a m : Core) → nodes (Lam x a m) ≡ nodes a + nodes m
 nodes_lam x a m = (nodes_are_counted x Plain 0 (variable_level 0) a a m m).5
-
-nameless : Binder
-nameless = record { name = None; mark = Plain }
-
-pub nodes_app : (k : Mark) (m n : Core) → nodes (App k m n) ≡ nodes m + nodes n
-nodes_app k m n = (nodes_are_counted nameless k 0 (variable_level 0) m m m n).6
-
-pub nodes_fst : (m : Core) → nodes (Fst m) ≡ nodes m
-nodes_fst m = (nodes_are_counted nameless Plain 0 (variable_level 0) m m m m).9
-
-pub nodes_snd : (m : Core) → nodes (Snd m) ≡ nodes m
-nodes_snd m = (nodes_are_counted nameless Plain 0 (variable_level 0) m m m m).10
 
 pub nodes_let : (x : Binder) (m b : Core) → nodes (Let x m b) ≡ nodes m + nodes (instantiate b m)
 nodes_let x m b = (nodes_are_counted x Plain 0 (variable_level 0) m m m b).11
@@ -70,29 +57,11 @@ pub placed_function_body : {es : List Entry} {s : Site} {x : Binder} {a b : Core
 placed_function_body {x = x} {a = a} {b = b} p =
     placed_part p (ready_part p.ready (Part.lam_body {w = Nothing})) (omega (arith, heights.lam x a b)) (omega (arith, weights.lam x a b)) (omega (arith, nodes_lam x a b))
 
-pub placed_applied : {es : List Entry} {s : Site} {k : Mark} {f m : Core} → IsPlaced es s (App k f m) → IsPlaced es s f
-placed_applied {k = k} {f = f} {m = m} p =
-    placed_part p (ready_part p.ready (Part.function {w = Nothing})) (omega (arith, heights.app k f m)) (omega (arith, weights.app k f m)) (omega (arith, nodes_app k f m))
-
-pub placed_first : {es : List Entry} {s : Site} {m : Core} → IsPlaced es s (Fst m) → IsPlaced es s m
-placed_first {m = m} p =
-    placed_part p (ready_part p.ready (Part.fst_operand {w = Nothing})) (omega (arith, heights.fst m)) (omega (arith, weights.fst m)) (omega (arith, nodes_fst m))
-
-pub placed_second : {es : List Entry} {s : Site} {m : Core} → IsPlaced es s (Snd m) → IsPlaced es s m
-placed_second {m = m} p =
-    placed_part p (ready_part p.ready (Part.snd_operand {w = Nothing})) (omega (arith, heights.snd m)) (omega (arith, weights.snd m)) (omega (arith, nodes_snd m))
-
 pub placed_local_body : {es : List Entry} {s : Site} {x : Binder} {m b : Core} → IsPlaced es s (Let x m b) → IsPlaced es (behind (nodes m) s) (instantiate b m)
 placed_local_body {x = x} {m = m} {b = b} p =
     placed_part p (ready_part p.ready (Part.local_body {w = Nothing})) (omega (arith, heights.local x m b)) (omega (arith, weights.local x m b)) (omega (arith, nodes_let x m b))
 
 -- the loose variables of a term and of its rule type are few
-pub few_names : {es : List Entry} {m : Core} (locals : List Local) (first : ℕ) → IsPlaced es (site_of locals first) m → length locals ≤ 63536
-few_names locals first p = let f = p.ready.few in omega (arith, length-map (λ (z : Local). z.ty) locals)
-
-pub few_loose : {es : List Entry} {s : Site} {m : Core} → IsPlaced es s m → loose m ≤ 65536
-few_loose p = let f = p.ready.few in let l = p.ready.over.variables in omega arith
-
 pub few_loose_type : {es : List Entry} {s : Site} {m a : Core} → IsPlaced es s m → RuleTypeAt es s m a → loose a ≤ 65536
 few_loose_type p r = let f = p.ready.few in let l = loose_of p.ready r in omega arith
 

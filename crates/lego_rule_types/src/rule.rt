@@ -13,10 +13,10 @@
 //! A part whose rule type isn't used is not looked at; only its nodes are counted.
 ghost use Rattle.std.specs.Prelude.{◌≡◌, OnOk};
 ghost use Rattle.lego_term.specs.Trees.{Pi, Lam, App, Fst, Snd, Let};
-ghost use Rattle.lego_laws.specs.Places.{AFunction, APair};
+ghost use Rattle.lego_laws.specs.Places.{APair};
 ghost use Rattle.lego_inference.specs.Entries.{laws_entries};
 ghost use Rattle.lego_inference.specs.Locals.{site_of};
-ghost use Rattle.lego_rule_types.specs.private.Finding.{site_under, IsPlaced, Finds, FindsHead, FindsFormer, product_tree, sigma_tree};
+ghost use Rattle.lego_rule_types.specs.private.Finding.{IsPlaced, Finds, FindsHead, FindsFormer, sigma_tree};
 
 use crate::head::{Former, head_of, product_in, sigma_in};
 use crate::made::{

@@ -1,6 +1,5 @@
 -- What the functions of a search answer of a term at a site. A tool of the proofs.
-use Rattle.std.specs.Prelude.{◌≡◌, ℕ, ◌+◌, ◌≤◌, ◌⊎◌, List, ◌∷◌, Option, Some, None, Result, Ok, Err}
-use Rattle.lego_term.specs.declared.binder.Binder.{Binder}
+use Rattle.std.specs.Prelude.{◌≡◌, ℕ, ◌+◌, ◌≤◌, ◌⊎◌, List, Option, Some, None, Result, Ok, Err}
 use Rattle.lego_term.specs.Levels.{variable_level}
 use Rattle.lego_term.specs.Trees.{Core, Prop, Univ, Pi, Sigma}
 use Rattle.lego_term.specs.Weight.{height, weight}
@@ -11,8 +10,7 @@ use Rattle.lego_laws.specs.Places.{Want, Fulfils, Site, RuleTypeAt}
 use Rattle.lego_laws.specs.RuleTypes.{RuleType, nodes}
 use Rattle.lego_inference.specs.declared.fault.TypeFault.{TypeFault}
 use Rattle.lego_inference.specs.declared.fault.TypeFault.TheVariants.{Budget, TooLarge, Memory}
-use Rattle.lego_inference.specs.declared.locals.Local.{Local}
-use Rattle.lego_inference.specs.Locals.{site_of, seen_at}
+use Rattle.lego_inference.specs.Locals.{seen_at}
 use Rattle.lego_inference.specs.private.Judging.{IsReady}
 use Rattle.lego_rule_types.specs.declared.head.Former.{Former}
 use Rattle.lego_rule_types.specs.Failures.{Stops}
@@ -25,10 +23,7 @@ pub record IsPlaced (es : List Entry) (s : Site) (m : Core) : Type 0 where
   pub heavy : weight m ≤ 1048576
   pub room : s.first + nodes m ≤ 1048576
 
--- the site under a binder, where this is the number of the first node there
-abbrev pub site_under : Binder → Core → List Local → ℕ → Site
-site_under x a locals first = site_of (record { binder = x; ty = a } ∷ locals) first
-
+-- the rule type of the term is found, or that it has none
 abbrev pub Finds : List Entry → ℕ → Site → Core → Result (Option Core) TypeFault → Type 0
 Finds es limit s m (Ok (Some a)) = RuleTypeAt es s m a
 Finds es limit s m (Ok None) = HasNoRuleType es s.types m
@@ -47,6 +42,7 @@ pub record HasHead (es : List Entry) (s : Site) (m : Core) (h : Core) : Type 0 w
   pub rule : RuleTypeAt es s m ty
   pub head : HeadForm (core_bodies es) ty h
 
+-- the head form of the term's rule type is found, or that it has no rule type
 abbrev pub FindsHead : List Entry → ℕ → Site → Core → Result (Option Core) TypeFault → Type 0
 FindsHead es limit s m (Ok (Some h)) = HasHead es s m h
 FindsHead es limit s m (Ok None) = HasNoRuleType es s.types m
