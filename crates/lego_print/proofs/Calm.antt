@@ -19,9 +19,11 @@ use Rattle.lego_grammar.specs.Grammar.{Names}
 use Rattle.lego_print.specs.declared.shown.Shown.{Shown}
 use Rattle.lego_print.specs.declared.shown.Shown.TheVariants.{Least, Hidden}
 use Rattle.lego_print.specs.Names.{Scope}
+use Rattle.lego_print.specs.Holes.{called_text, head_called}
 use Rattle.lego_print.specs.Texts.{term_text, level_text, local_text, constant_text, binder_name, bound, unbound, is_arrow, is_unused, sigma_rank, sign_text, argument_sign, ranked}
 use Rattle.lego_print.specs.ReadBack.{IsLeast, IsBinderText, IsReadable}
 use Rattle.lego_print.specs.private.Parts.{sigma_text, product_text, lambda_text, application_text, local_definition_text}
+use Rattle.lego_print.proofs.NoHoles.{stands_at_none}
 use Rattle.lego_print.proofs.ReadForms.{name_form}
 use Rattle.lego_print.proofs.ReadTokens.{decimal_text}
 
@@ -168,8 +170,10 @@ module _ (levels : Shown) (v : Assignment) (names : Names) (es : List Entry) (nu
       (calm_binder (codes "[") (binder_name scope x.name) (sign_text x.mark) (term_text levels scope 0 a) (codes "]") (term_text levels (bound scope x.name) 0 m)
       refl (calm_bound_name scope x.name h.1) (calm_sign x.mark) (calm_term a scope 0 h.0 are) refl (calm_term m (bound scope x.name) 0 h.2 (calm_bound scope x.name h.1 are)))
   calm_term (App mark m n) scope wanted h are =
-      calm_ranked 2 wanted (application_text levels scope mark m n)
-      (calm_infix (term_text levels scope 2 m) (argument_sign mark) (term_text levels scope 3 n) (calm_term m scope 2 h.0 are) (calm_argument mark) (calm_term n scope 3 h.1 are))
+      subst (λ (b : Bool). Calm (if b then called_text scope.names (head_called scope m) else ranked 2 wanted (application_text levels scope mark m n)))
+      (sym (stands_at_none names es numbers v scope (App mark m n) h))
+      (calm_ranked 2 wanted (application_text levels scope mark m n)
+      (calm_infix (term_text levels scope 2 m) (argument_sign mark) (term_text levels scope 3 n) (calm_term m scope 2 h.0 are) (calm_argument mark) (calm_term n scope 3 h.1 are)))
   calm_term (Sigma x a b) scope wanted h are =
       let B = match_map {R = IsCalm (unbound scope) 1 b} {S = CalmBound scope x.name b} (is_unused b)
       (λ p. calm_term b (unbound scope) 1 p (calm_under scope are))

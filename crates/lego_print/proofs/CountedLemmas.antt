@@ -6,6 +6,7 @@ use Rattle.std.proofs.lemmas.Bool.Decides.{nat_tests}
 use Rattle.std.proofs.lemmas.Cmp.{nat_list_eq_equiv}
 use Rattle.std.proofs.lemmas.Option.{same_Some}
 use Rattle.lego_grammar.specs.Grammar.{Names}
+use Rattle.lego_print.specs.declared.called.Called.{Called}
 use Rattle.lego_print.specs.Names.{Scope, is_text_of, is_printed_as, is_free, numbered, wished_name, under}
 use Rattle.lego_print.specs.private.Numbered.{Numbered, scope_of}
 use Rattle.lego_print.specs.private.Counted.{AreTaken, IsCounted, AreCounted}
@@ -29,7 +30,7 @@ own_taken : (scope : Scope) (text : List ℕ) → is_free (under (Some text) sco
 own_taken scope text =
     in_use (list_any (is_text_of scope.names text) scope.entries) (is_printed_as text (Some text)) (list_any (is_printed_as text) scope.locals) (nat_list_eq_equiv.refl text)
 
-module _ (names : Names) (called : ℕ → Option ℕ) (entries : List ℕ) where
+module _ (names : Names) (called : ℕ → Called) (entries : List ℕ) where
   one_more : (locals : List (Option Numbered)) (n : Numbered) → IsCounted (scope_of names called entries locals) n
       → AreTaken (scope_of names called entries (Some n ∷ locals)) (wished_name names n.wished) (suc n.number)
   one_more locals n c m l = by_place (nat_eq m n.number) refl

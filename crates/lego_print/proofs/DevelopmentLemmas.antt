@@ -1,5 +1,5 @@
 -- What a loop over entries or universes adds.
-use Rattle.std.proofs.Common.{◌≡◌, ℕ, Bool, true, false, not, ◌&&◌, ◌||◌, nat_eq, if◌then◌else◌, List, [], ◌∷◌, ◌++◌, Option, Some, OnOk, refl, sym, ap, ◌∙◌, append_assoc, arith}
+use Rattle.std.proofs.Common.{◌≡◌, ℕ, Bool, true, false, not, ◌&&◌, ◌||◌, nat_eq, if◌then◌else◌, List, [], ◌∷◌, ◌++◌, Some, OnOk, refl, sym, ap, ◌∙◌, append_assoc, arith}
 use Rattle.std.specs.Prelude.{nat_lt}
 use Rattle.std.specs.List.{list_any}
 use Rattle.std.specs.declared.result.Result.{Result}
@@ -11,6 +11,7 @@ use Rattle.lego_print.specs.declared.item.Item.{Item}
 use Rattle.lego_print.specs.declared.shown.Shown.{Shown}
 use Rattle.lego_print.specs.Developments.{used_once, is_before, with_name, entry_commands}
 use Rattle.lego_print.specs.Entries.{item_entry, item_entries, entry_command}
+use Rattle.lego_print.specs.declared.called.Called.{Called}
 use Rattle.lego_print.specs.Texts.{outer_scope}
 use Rattle.std.specs.Cmp.{IsStrictWeakOrder}
 
@@ -58,7 +59,7 @@ unused_step keys new u us old is h =
     by_test w false e = refl
 
 -- one more command
-pub commands_step : (levels : Shown) (names : Names) (constant : ℕ → Option ℕ) (before : List ℕ) (i : Item) (is : List Item) (old : List ℕ)
+pub commands_step : (levels : Shown) (names : Names) (constant : ℕ → Called) (before : List ℕ) (i : Item) (is : List Item) (old : List ℕ)
     → (old ++ entry_command levels (outer_scope names constant before) (item_entry i))
     ++ entry_commands levels (outer_scope names constant (with_name before (Some i.name))) (item_entries is)
     ≡ old ++ entry_commands levels (outer_scope names constant before) (item_entries (i ∷ is))

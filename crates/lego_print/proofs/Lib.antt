@@ -9,9 +9,11 @@ pub mod FreeNames
 pub mod ReadLocals
 pub mod ReadForms
 pub mod Renumbered
+pub mod NoHoles
 pub mod ReadTerms
 pub mod CountedLemmas
 pub mod PrintedNames
+pub mod Holes
 pub mod Ranks
 pub mod Calm
 pub mod ReadCommands

@@ -12,6 +12,7 @@ use Rattle.std.proofs.lemmas.Option.{same_Some, slice_get-get_or}
 use Rattle.lego_base.specs.Names.{same_text, AreDistinct}
 use Rattle.lego_base.proofs.NamesLemmas.{true_is_false}
 use Rattle.lego_grammar.specs.Grammar.{Names}
+use Rattle.lego_print.specs.declared.called.Called.{Called}
 use Rattle.lego_print.specs.Names.{Scope, is_text_of, is_printed_as, is_free, numbered, names_in_use, first_free}
 use Rattle.lego_print.specs.private.Numbered.{Numbered, scope_of}
 use Rattle.lego_print.proofs.Texts.{same_text_equal}
@@ -109,6 +110,6 @@ free_no_entry scope text free = neither (list_any (is_text_of scope.names text) 
     neither false b h = refl
 
 -- how many names are in use
-pub in_use : (names : Names) (called : ℕ → Option ℕ) (entries : List ℕ) (locals : List (Option Numbered))
+pub in_use : (names : Names) (called : ℕ → Called) (entries : List ℕ) (locals : List (Option Numbered))
     → names_in_use (scope_of names called entries locals) ≡ length entries + length locals
 in_use names called entries locals = ap (λ n. length entries + n) (length-map locals (option_map (λ (n : Numbered). n.text)))

@@ -22,10 +22,13 @@ use Rattle.lego_grammar.specs.Developments.{is_written_sigma}
 use Rattle.lego_print.specs.declared.shown.Shown.{Shown}
 use Rattle.lego_print.specs.declared.shown.Shown.TheVariants.{Least, Hidden}
 use Rattle.lego_print.specs.Names.{Scope, wished_name}
+use Rattle.lego_print.specs.Holes.{called_text, head_called}
+use Rattle.lego_print.specs.private.Parts.{application_text}
 use Rattle.lego_print.specs.Texts.{term_text, level_text, local_text, constant_text, binder_name, bound, unbound, is_arrow, is_unused, is_plain, sigma_rank, sign_text, argument_sign, ranked}
 use Rattle.lego_print.specs.ReadBack.{IsLeast, marked, IsEntryText, IsBinderText, IsReadable, ReadsBack}
 use Rattle.lego_print.proofs.FreeNames.{printed_free}
 use Rattle.lego_print.proofs.NamesLemmas.{free_no_local, free_no_entry}
+use Rattle.lego_print.proofs.NoHoles.{stands_at_none}
 use Rattle.lego_print.proofs.ReadForms.{Both, form_of, both_atom, both_ranked, arrow_read, hash_read, bar_read, bind_read, local_read, first_read, second_read, univ_read, name_is, promote, post_to, as_term}
 use Rattle.lego_print.proofs.ReadLocals.{AreLocals, local_found, local_absent}
 use Rattle.lego_print.proofs.ReadParts.{CanRead, as_form, name_read, prop_read, two_parts, binder_parts, blank_parts, pair_read}
@@ -223,8 +226,10 @@ module _ (levels : Shown) (v : Assignment) (names : Names) (es : List Entry) (nu
   read_term (App mark m n) scope locals wanted h are =
       let M = read_term m scope locals 2 h.0 are in
       let N = read_term n scope locals 3 h.1 are in
-      both_ranked names es 2 wanted (apply_both locals mark (term_text levels scope 2 m) (term_text levels scope 3 n) (renumbered numbers v m) (renumbered numbers v n) M N)
-      (no_star_more (term_text levels scope 2 m ++ argument_sign mark) (term_text levels scope 3 n) (no_star_more (term_text levels scope 2 m) (argument_sign mark) M.star))
+      subst (λ (b : Bool). Both names es locals wanted (if b then called_text scope.names (head_called scope m) else ranked 2 wanted (application_text levels scope mark m n)) (renumbered numbers v (App mark m n)))
+      (sym (stands_at_none names es numbers v scope (App mark m n) h))
+      (both_ranked names es 2 wanted (apply_both locals mark (term_text levels scope 2 m) (term_text levels scope 3 n) (renumbered numbers v m) (renumbered numbers v n) M N)
+      (no_star_more (term_text levels scope 2 m ++ argument_sign mark) (term_text levels scope 3 n) (no_star_more (term_text levels scope 2 m) (argument_sign mark) M.star)))
   read_term (Sigma x a b) scope locals wanted h are =
       let A2 = read_term a scope locals 2 h.1 are in
       let A0 = read_term a scope locals 0 h.1 are in

@@ -13,10 +13,11 @@ use Rattle.lego_laws.specs.Entries.{Entry, entry_of}
 use Rattle.lego_lexer.specs.Tokens.{Name, token_of}
 use Rattle.lego_grammar.specs.Grammar.{Names}
 use Rattle.lego_grammar.specs.Scopes.{entry_named, is_named}
-use Rattle.lego_print.specs.Names.{Scope, is_text_of, name_text}
+use Rattle.lego_print.specs.Names.{Scope, called_by, is_text_of, name_text}
+use Rattle.lego_print.specs.Holes.{called_text}
 use Rattle.lego_print.specs.Texts.{constant_text, outer_scope}
 use Rattle.lego_print.specs.ReadBack.{IsReadable}
-use Rattle.lego_print.specs.Developments.{name_in, with_name, with_entry}
+use Rattle.lego_print.specs.Developments.{called_in, name_in, with_name, with_entry}
 use Rattle.lego_print.specs.Denoted.{AreReadable}
 use Rattle.lego_print.specs.Showable.{IsName, IsSmallTerm, has_entry, IsShowableTerm, IsShowableEntry, AreShowable, PrintedDevelopmentsDenote}
 use Rattle.lego_print.proofs.MoreNames.{AreHeld, get_front, added, held_front, held_back}
@@ -193,14 +194,14 @@ module _ (v : Assignment) (given : Names) (all : List Entry) where
 
   module _ (names : Names) (front : (n : ℕ) (text : List ℕ) → slice_get given n ≡ Some text → slice_get names n ≡ Some text) where
     -- each constant of these entries is printed as the name of its entry
-    known : (before rest : List Entry) (entries : List ℕ) → all ≡ before ++ rest → AreListed before entries → AreKnown v given names (name_in all) entries before
+    known : (before rest : List Entry) (entries : List ℕ) → all ≡ before ++ rest → AreListed before entries → AreKnown v given names (called_in all) entries before
     known before rest entries is listed locals k has =
         let l = listed k has in
         let t = l.is_name in
         let found : entry_of all k ≡ Some l.entry = ap (λ (es : List Entry). entry_of es k) is ∙ number_front l.entry before k l.entry rest l.found in
         let named : name_in all k ≡ Some l.name = ap (λ (o : Option Entry). option_and_then (λ (e : Entry). e.name) o) found ∙ l.called in
-        let text : constant_text (within v given names (name_in all) entries before locals) k ≡ t.text =
-        ap (λ (o : Option ℕ). unwrap_or (option_map (name_text given) o) []) named ∙ ap (λ (o : Option (List ℕ)). unwrap_or o []) t.held in
+        let text : constant_text (within v given names (called_in all) entries before locals) k ≡ t.text =
+        ap (λ (o : Option ℕ). called_text given (called_by o)) named ∙ ap (λ (o : Option (List ℕ)). unwrap_or o []) t.held in
         record {
           text = record {
             number = l.name;
@@ -214,27 +215,27 @@ module _ (v : Assignment) (given : Names) (all : List Entry) where
         }
 
     readable_term : (before rest : List Entry) (entries : List ℕ) (t : Core) → all ≡ before ++ rest → AreListed before entries → length entries < 2 ^ 63
-        → IsShowableTerm given before t → IsSmallTerm v t → AreHeld names (binder_texts (outer_scope given (name_in all) entries) t)
-        → IsReadable names before (λ k. k) v (outer_scope given (name_in all) entries) t
+        → IsShowableTerm given before t → IsSmallTerm v t → AreHeld names (binder_texts (outer_scope given (called_in all) entries) t)
+        → IsReadable names before (λ k. k) v (outer_scope given (called_in all) entries) t
     readable_term before rest entries t is listed few s small held =
         let deep = small.depth_is in
-        shown_readable v given names (name_in all) entries before (known before rest entries is listed) t []
+        shown_readable v given names (called_in all) entries before (known before rest entries is listed) t []
         (λ i u. absurd (true_is_false (uses_variable i t) u (loose_unused i t (let c = s.closed in omega arith))))
         s.mentions s.binders (recursion_from_All (λ l. level_value v l < 2 ^ 64) (levels_of t) small.levels) (omega arith) held
 
     readable_body : (before rest : List Entry) (entries : List ℕ) (o : Option Core) → all ≡ before ++ rest → AreListed before entries → length entries < 2 ^ 63
-        → IfSome o (IsShowableTerm given before) → IfSome o (IsSmallTerm v) → AreHeld names (body_texts (outer_scope given (name_in all) entries) o)
-        → IfSome o (λ m. IsReadable names before (λ k. k) v (outer_scope given (name_in all) entries) m)
+        → IfSome o (IsShowableTerm given before) → IfSome o (IsSmallTerm v) → AreHeld names (body_texts (outer_scope given (called_in all) entries) o)
+        → IfSome o (λ m. IsReadable names before (λ k. k) v (outer_scope given (called_in all) entries) m)
     readable_body before rest entries None is listed few s small held = tt
     readable_body before rest entries (Some m) is listed few s small held = readable_term before rest entries m is listed few s small held
 
     pub entries_readable : (es before : List Entry) (entries : List ℕ) → all ≡ before ++ es → AreListed before entries → length entries ≤ length before
-        → AreShowable v given before es → AreHeld names (entries_texts (outer_scope given (name_in all) entries) es)
-        → AreReadable names v (outer_scope given (name_in all) entries) before es
+        → AreShowable v given before es → AreHeld names (entries_texts (outer_scope given (called_in all) entries) es)
+        → AreReadable names v (outer_scope given (called_in all) entries) before es
     entries_readable [] before entries is listed few shown held = tt
     entries_readable (e ∷ es) before entries is listed few shown held =
         let s = shown.0 in
-        let scope = outer_scope given (name_in all) entries in
+        let scope = outer_scope given (called_in all) entries in
         let texts = binder_texts scope e.ty in
         let body = body_texts scope e.body in
         let others = entries_texts (with_entry scope e) es in
@@ -261,12 +262,12 @@ module _ (v : Assignment) (given : Names) (all : List Entry) where
 
 pub developments_denote : PrintedDevelopmentsDenote
 developments_denote v given es us text place distinct d shown small =
-    let scope = outer_scope given (name_in es) [] in
+    let scope = outer_scope given (called_in es) [] in
     let a = added given (entries_texts scope es) distinct in
     let none : AreListed v given es [] [] = (λ (k : ℕ) (h : IsTrue (has_entry [] k)). absurd (cc)) in
     record {
       more = a.more;
       distinct = a.distinct;
-      read = developments_read v given (given ++ a.more) (name_in es) es us text place d
+      read = developments_read v given (given ++ a.more) (called_in es) es us text place d
           (entries_readable v given es (given ++ a.more) (get_front given a.more) es [] [] refl none (omega arith) shown a.held) small;
     }

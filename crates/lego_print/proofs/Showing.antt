@@ -12,6 +12,7 @@ use Rattle.lego_laws.specs.Strengthening.{MentionsOnly}
 use Rattle.lego_lexer.specs.Tokens.{Name, token_of}
 use Rattle.lego_lexer.proofs.TokenLemmas.{and_true}
 use Rattle.lego_grammar.specs.Grammar.{Names}
+use Rattle.lego_print.specs.declared.called.Called.{Called}
 use Rattle.lego_print.specs.Names.{Scope, name_text, wished_name}
 use Rattle.lego_print.specs.Texts.{binder_name, bound, unbound, is_arrow, is_unused, is_plain}
 use Rattle.lego_print.specs.ReadBack.{IsReadable, IsEntryText, IsBinderText}
@@ -66,7 +67,7 @@ by_side : {R S : Type 0} (b : Bool) → (b ≡ true → R) → (b ≡ false → 
 by_side true f g = f refl
 by_side false f g = g refl
 
-module _ (v : Assignment) (given names : Names) (constant : ℕ → Option ℕ) (entries : List ℕ) (before : List Entry) where
+module _ (v : Assignment) (given names : Names) (constant : ℕ → Called) (entries : List ℕ) (before : List Entry) where
   abbrev pub within : List (Option (List ℕ)) → Scope
   within locals = record { names = given; constant = constant; entries = entries; locals = locals }
 

@@ -1,5 +1,5 @@
 -- What it is for a printed development to denote its entries.
-use Rattle.std.specs.Prelude.{◌≡◌, ℕ, ◌<◌, ◌^◌, List, [], ◌∷◌, ◌++◌, All, Option, Some, None, IfSome, slice_get}
+use Rattle.std.specs.Prelude.{◌≡◌, ℕ, ◌<◌, ◌^◌, List, [], ◌∷◌, ◌++◌, All, Some, None, IfSome, slice_get}
 use Rattle.lego_base.specs.declared.place.Place.{Place}
 use Rattle.lego_term.specs.Levels.{Assignment, node_value}
 use Rattle.lego_term.specs.declared.binder.Mark.TheVariants.{Plain}
@@ -10,6 +10,7 @@ use Rattle.lego_grammar.specs.Scopes.{entry_named}
 use Rattle.lego_grammar.specs.Denotes.{Denotes}
 use Rattle.lego_grammar.specs.Developments.{IsDevelopmentText}
 use Rattle.lego_print.specs.declared.universes.Universe.{Universe}
+use Rattle.lego_print.specs.declared.called.Called.{Called}
 use Rattle.lego_print.specs.Names.{Scope, name_text}
 use Rattle.lego_print.specs.Texts.{outer_scope}
 use Rattle.lego_print.specs.ReadBack.{IsReadable}
@@ -47,6 +48,6 @@ pub record IsRead (names : Names) (place : Place) (text : List ℕ) (v : Assignm
 -- at any place, the text of a development whose entries can be read back is read as these entries at the levels shown
 abbrev pub PrintedDevelopmentsReadBack : Type 0
 PrintedDevelopmentsReadBack =
-    (v : Assignment) (given names : Names) (constant : ℕ → Option ℕ) (es : List Entry) (us : List Universe) (text : List ℕ) (place : Place)
+    (v : Assignment) (given names : Names) (constant : ℕ → Called) (es : List Entry) (us : List Universe) (text : List ℕ) (place : Place)
     → IsDevelopment v given constant es us text → AreReadable names v (outer_scope given constant []) [] es → All (IsSmall v) us
     → IsRead names place text v es

@@ -8,7 +8,8 @@ use Rattle.lego_laws.specs.Entries.{Entry, entry_of}
 use Rattle.lego_print.specs.declared.universes.Universe.{Universe}
 use Rattle.lego_grammar.specs.Grammar.{Names}
 use Rattle.lego_print.specs.declared.shown.Shown.{Shown}
-use Rattle.lego_print.specs.Names.{Scope}
+use Rattle.lego_print.specs.declared.called.Called.{Called}
+use Rattle.lego_print.specs.Names.{Scope, called_by}
 use Rattle.lego_print.specs.Texts.{outer_scope}
 use Rattle.lego_print.specs.Entries.{entry_command}
 use Rattle.lego_print.specs.Refusals.{place_text}
@@ -17,6 +18,10 @@ use Rattle.lego_print.specs.ReadBack.{IsLeast}
 -- the name of the entry of a number
 abbrev pub name_in : List Entry → ℕ → Option ℕ
 name_in es k = option_and_then (λ e. e.name) (entry_of es k)
+
+-- what the constant of a number is called: by the name of its entry
+abbrev pub called_in : List Entry → ℕ → Called
+called_in es k = called_by (name_in es k)
 
 -- names in scope, with one more where it is new
 abbrev pub with_name : List ℕ → Option ℕ → List ℕ
@@ -53,9 +58,9 @@ abbrev pub universe_lines : List ℕ → List Universe → List ℕ
 universe_lines v [] = []
 universe_lines v (u ∷ us) = universe_line v u ++ universe_lines v us
 
--- The text of a development at the levels v, where constants have these names: `Explicit;`; a command for each entry; and by
+-- The text of a development at the levels v, where constants are called so: `Explicit;`; a command for each entry; and by
 -- place, each variable once, a line for each universe whose variable occurs in a type or body of an entry.
-pub record IsDevelopment (v : List ℕ) (names : Names) (constant : ℕ → Option ℕ) (es : List Entry) (us : List Universe) (text : List ℕ) : Type 0 where
+pub record IsDevelopment (v : List ℕ) (names : Names) (constant : ℕ → Called) (es : List Entry) (us : List Universe) (text : List ℕ) : Type 0 where
   pub levels : Shown
   pub least : IsLeast levels v
   pub listed : List Universe

@@ -1,8 +1,10 @@
 pub mod Names
+pub mod Holes
 pub mod Texts
 pub mod Headings
 pub mod Entries
 pub mod EntryLines
+pub mod Goals
 pub mod ReadBack
 pub mod Refusals
 pub mod Developments

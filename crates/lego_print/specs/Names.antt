@@ -1,8 +1,10 @@
 -- Printed names: which texts are in use, and what a binder is called.
-use Rattle.std.specs.Prelude.{ℕ, ◌+◌, nat_eq, Bool, false, not, ◌||◌, if◌then◌else◌, List, [], ◌∷◌, ◌++◌, length, codes, decimal, Option, option_map, unwrap_or, slice_get}
+use Rattle.std.specs.Prelude.{ℕ, ◌+◌, nat_eq, Bool, false, not, ◌||◌, if◌then◌else◌, List, [], ◌∷◌, ◌++◌, length, codes, decimal, Option, Some, None, option_map, unwrap_or, slice_get}
 use Rattle.std.specs.List.{list_any, position_or_len, range_with_len}
 use Rattle.lego_base.specs.Names.{same_text}
 use Rattle.lego_grammar.specs.Grammar.{Names}
+use Rattle.lego_print.specs.declared.called.Called.{Called}
+use Rattle.lego_print.specs.declared.called.Called.TheVariants.{Name, Unknown}
 
 -- the text of a name's number
 abbrev pub name_text : Names → ℕ → List ℕ
@@ -16,11 +18,16 @@ is_text_of names text n = unwrap_or (option_map (same_text text) (slice_get name
 abbrev pub is_printed_as : List ℕ → Option (List ℕ) → Bool
 is_printed_as text printed = unwrap_or (option_map (same_text text) printed) false
 
--- What the names of a text stand among: the numbered names, the name of each constant, the names of the entries in scope,
+-- what an entry is called: by its name, if it has one
+abbrev pub called_by : Option ℕ → Called
+called_by (Some n) = Name n
+called_by None = Unknown
+
+-- What the names of a text stand among: the numbered names, what each constant is called, the names of the entries in scope,
 -- and the printed names of the enclosing local variables, the innermost first. The variable of an arrow or a `#` has none.
 pub record Scope : Type 0 where
   pub names : Names
-  pub constant : ℕ → Option ℕ
+  pub constant : ℕ → Called
   pub entries : List ℕ
   pub locals : List (Option (List ℕ))
 

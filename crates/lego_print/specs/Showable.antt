@@ -13,7 +13,7 @@ use Rattle.lego_lexer.specs.Tokens.{Name, token_of}
 use Rattle.lego_grammar.specs.Grammar.{Names}
 use Rattle.lego_grammar.specs.Scopes.{entry_named}
 use Rattle.lego_print.specs.declared.universes.Universe.{Universe}
-use Rattle.lego_print.specs.Developments.{name_in, IsDevelopment}
+use Rattle.lego_print.specs.Developments.{called_in, IsDevelopment}
 use Rattle.lego_print.specs.Denoted.{IsSmall, IsRead}
 
 -- each binder of a product or a function has P, and each of a Sigma type, a pair or a local definition Q
@@ -112,5 +112,5 @@ pub record IsReadByMore (given : Names) (place : Place) (text : List ℕ) (v : A
 abbrev pub PrintedDevelopmentsDenote : Type 0
 PrintedDevelopmentsDenote =
     (v : Assignment) (given : Names) (es : List Entry) (us : List Universe) (text : List ℕ) (place : Place)
-    → AreDistinct given → IsDevelopment v given (name_in es) es us text → AreShowable v given [] es → All (IsSmall v) us
+    → AreDistinct given → IsDevelopment v given (called_in es) es us text → AreShowable v given [] es → All (IsSmall v) us
     → IsReadByMore given place text v es

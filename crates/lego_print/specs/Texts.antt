@@ -1,5 +1,6 @@
--- The texts of terms, a clause for each form: the ranks of the parts stand before them.
-use Rattle.std.specs.Prelude.{ℕ, nat_lt, Bool, not, ◌&&◌, if◌then◌else◌, List, [], ◌++◌, codes, decimal, Option, Some, None, option_map, unwrap_or, option_and_then, slice_get, fold}
+-- The texts of terms, a clause for each form: the ranks of the parts stand before them. A hole that is applied to exactly its
+-- own hypotheses is printed without them.
+use Rattle.std.specs.Prelude.{ℕ, nat_lt, Bool, not, ◌&&◌, if◌then◌else◌, List, [], ◌++◌, codes, decimal, Option, Some, None, unwrap_or, option_and_then, slice_get, fold}
 use Rattle.lego_term.specs.Levels.{level_value}
 use Rattle.lego_term.specs.Trees.{Core, Var, Const, Prop, Univ, Pi, Lam, App, Sigma, Pair, Fst, Snd, Let, uses_variable}
 use Rattle.lego_term.specs.declared.binder.Binder.{Binder}
@@ -10,7 +11,9 @@ use Rattle.lego_term.specs.declared.seen.Seen.{Seen}
 use Rattle.lego_grammar.specs.Grammar.{Names}
 use Rattle.lego_print.specs.declared.shown.Shown.{Shown}
 use Rattle.lego_print.specs.declared.shown.Shown.TheVariants.{Least, Hidden}
-use Rattle.lego_print.specs.Names.{Scope, name_text, printed_name, wished_name, under}
+use Rattle.lego_print.specs.declared.called.Called.{Called}
+use Rattle.lego_print.specs.Names.{Scope, printed_name, wished_name, under}
+use Rattle.lego_print.specs.Holes.{called_text, head_called, stands_at_its_hypotheses}
 
 -- the sign before a domain, and the one before an argument
 abbrev pub sign_text : Mark → List ℕ
@@ -30,7 +33,7 @@ abbrev pub local_text : Scope → ℕ → List ℕ
 local_text scope i = unwrap_or (option_and_then (λ printed. printed) (slice_get scope.locals i)) []
 
 abbrev pub constant_text : Scope → ℕ → List ℕ
-constant_text scope k = unwrap_or (option_map (name_text scope.names) (scope.constant k)) []
+constant_text scope k = called_text scope.names (scope.constant k)
 
 -- the printed name of a binder whose own name this is, and the scope of its body
 abbrev pub binder_name : Scope → Option ℕ → List ℕ
@@ -75,7 +78,9 @@ term_text levels scope wanted (Lam x a m) =
     ranked 0 wanted
     (codes "[" ++ binder_name scope x.name ++ sign_text x.mark ++ term_text levels scope 0 a ++ codes "]" ++ term_text levels (bound scope x.name) 0 m)
 term_text levels scope wanted (App mark m n) =
-    ranked 2 wanted (term_text levels scope 2 m ++ argument_sign mark ++ term_text levels scope 3 n)
+    if stands_at_its_hypotheses scope (App mark m n)
+    then called_text scope.names (head_called scope m)
+    else ranked 2 wanted (term_text levels scope 2 m ++ argument_sign mark ++ term_text levels scope 3 n)
 term_text levels scope wanted (Sigma x a b) =
     ranked (sigma_rank b) wanted (if is_unused b
     then term_text levels scope 2 a ++ codes "#" ++ term_text levels (unbound scope) 1 b
@@ -93,7 +98,7 @@ term_text levels scope wanted (Let x m n) =
     (codes "[" ++ binder_name scope x.name ++ codes "=" ++ term_text levels scope 0 m ++ codes "]" ++ term_text levels (bound scope x.name) 0 n)
 
 -- a scope without local variables
-abbrev pub outer_scope : Names → (ℕ → Option ℕ) → List ℕ → Scope
+abbrev pub outer_scope : Names → (ℕ → Called) → List ℕ → Scope
 outer_scope names constant entries = record { names = names; constant = constant; entries = entries; locals = [] }
 
 -- the scope under these binders, the outermost first, each of which gets a printed name

@@ -2,6 +2,7 @@
 ghost use Rattle.std.specs.Prelude.{◌≡◌, ◌++◌, ◌+◌, Some, length, IfOk, OnOk};
 ghost use Rattle.lego_print.specs.Developments.{with_name};
 
+use crate::called::Called;
 use crate::entries::Entries;
 use crate::front::NamesBefore;
 use std::alloc::AllocError;
@@ -46,8 +47,8 @@ impl<E: Entries> Entries for Behind<'_, E> {
         self.before.has_name(name) || self.added.has(name)
     }
 
-    fn name_of(&self, number: u32) -> Option<u32> {
-        self.before.name_of(number)
+    fn constant(&self, number: u32) -> Called {
+        self.before.constant(number)
     }
 }
 

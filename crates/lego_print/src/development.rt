@@ -40,7 +40,7 @@ fn push_commands<E: Entries>(
 
 /// The text of a development: `Explicit;`, the command of each entry at these values of the
 /// level variables, and by place, each variable once, a line for each universe whose variable
-/// occurs in a type or body of an entry. `all` tells the names of constants.
+/// occurs in a type or body of an entry. `all` tells what constants are called.
 pub fn development_text<E: Entries>(
     alloc: Global,
     names: &Names,

@@ -3,6 +3,7 @@ ghost use Rattle.std.specs.Prelude.{◌≡◌, ℕ, [], List, Option, Some, nat_
 ghost use Rattle.std.specs.List.{list_any};
 ghost use Rattle.lego_print.specs.Developments.{with_name};
 
+use crate::called::Called;
 use crate::entries::Entries;
 use indexmap::IndexSet;
 use std::alloc::{AllocError, Global};
@@ -69,7 +70,7 @@ impl NamesBefore {
     }
 }
 
-/// The entries before one: `all` tells the names of constants.
+/// The entries before one: `all` tells what constants are called.
 #[derive(Drop)]
 pub(crate) struct Front<'a, E> {
     pub all: &'a E,
@@ -89,7 +90,7 @@ impl<E: Entries> Entries for Front<'_, E> {
         self.names.has(name)
     }
 
-    fn name_of(&self, number: u32) -> Option<u32> {
-        self.all.name_of(number)
+    fn constant(&self, number: u32) -> Called {
+        self.all.constant(number)
     }
 }

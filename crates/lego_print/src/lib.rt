@@ -2,10 +2,13 @@
 #![tactic(auto)]
 
 mod behind;
+mod called;
 mod development;
 mod entries;
 mod front;
+mod goals;
 mod heading;
+mod hole;
 mod item;
 mod laws;
 mod limits;
@@ -22,8 +25,10 @@ mod text;
 mod universes;
 mod used;
 
+pub use called::Called;
 pub use development::development_text;
 pub use entries::Entries;
+pub use goals::{Goal, Hypothesis, goal_lines};
 pub use heading::Heading;
 pub use item::Item;
 pub use laws::{

@@ -38,7 +38,7 @@ fn push_entries<E: Entries>(
 
 /// The lines of entries, each with its end: `x : T`, `x | T` for an implicit assumption,
 /// `x = M : T` for a definition. In scope are the entries that `before` has in scope, and those of
-/// the list before each; `before` tells the names of all constants. The time is that of the text,
+/// the list before each; `before` tells what all constants are called. The time is that of the text,
 /// however many entries stand before.
 pub fn entry_lines<E: Entries>(
     alloc: Global,

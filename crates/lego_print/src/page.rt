@@ -1,7 +1,7 @@
 //! What is printed so far, and the names that binders get.
-ghost use Rattle.std.specs.Prelude.{◌≡◌, [], ◌∷◌, Some, false, drop, option_map, unwrap_or, IfOk, OnOk};
+ghost use Rattle.std.specs.Prelude.{◌≡◌, [], ◌∷◌, Some, false, drop, IfOk, OnOk};
 ghost use Rattle.std.specs.List.{list_any};
-ghost use Rattle.lego_print.specs.Names.{numbered, is_free, is_text_of, is_printed_as, printed_name, wished_name, name_text as named_text};
+ghost use Rattle.lego_print.specs.Names.{numbered, is_free, is_text_of, is_printed_as, printed_name, wished_name};
 ghost use Rattle.lego_print.specs.private.Counted.{AreTaken, IsCounted, AreCounted};
 ghost use Rattle.lego_print.specs.private.Numbered.{numbered_frame, scope_of, printed};
 
@@ -98,22 +98,12 @@ fn numbered(alloc: Global, wished: &[u8], number: u64) -> Result<Vec<u8>, AllocE
 
 impl<E: Entries> Printer<'_, E> {
     /// The name that a binder wishes: its own, or `x`.
-    fn wished(&self, name: Option<u32>) -> &[u8]
+    pub fn wished(&self, name: Option<u32>) -> &[u8]
         ensures { result.now ≡ wished_name self.now.names.now name }
     {
         match name {
             Some(name) => name_text(self.names, name),
             None => b"x",
-        }
-    }
-
-    /// The text of a name, or nothing where there is none.
-    pub fn named(&self, name: Option<u32>) -> &[u8]
-        ensures { result.now ≡ unwrap_or (option_map (named_text self.now.names.now) name) [] }
-    {
-        match name {
-            Some(name) => name_text(self.names, name),
-            None => b"",
         }
     }
 

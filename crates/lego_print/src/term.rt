@@ -1,9 +1,9 @@
 //! The text of a term.
-ghost use Rattle.std.specs.Prelude.{◌≡◌, ◌++◌, OnOk};
+ghost use Rattle.std.specs.Prelude.{◌≡◌, ◌++◌, None, OnOk};
 ghost use Rattle.lego_print.specs.Texts.{term_text};
 ghost use Rattle.lego_print.specs.private.Counted.{AreCounted};
 ghost use Rattle.lego_print.specs.private.Numbered.{scope_of};
-ghost use Rattle.lego_print.specs.private.Parts.{infix_text, binder_text, product_text, lambda_text, local_definition_text, sigma_text, application_text, parts_text};
+ghost use Rattle.lego_print.specs.private.Parts.{infix_text, binder_text, product_text, lambda_text, local_definition_text, sigma_text, application_text, parts_text, own_hole};
 
 use crate::entries::Entries;
 use crate::page::{Page, Printer};
@@ -29,7 +29,8 @@ pub(crate) struct Brackets {
     pub close: &'static [u8],
 }
 
-/// Adds a term, in parentheses where its rank is below the wanted one.
+/// Adds a term, in parentheses where its rank is below the wanted one. A hole that is applied to
+/// exactly its own hypotheses stands alone.
 #[cycle(terms)]
 pub(crate) fn push_term<E: Entries>(
     printer: &Printer<'_, E>,
@@ -41,28 +42,31 @@ pub(crate) fn push_term<E: Entries>(
     ensures text { OnOk result (page.new.text.items ≡ page.old.text.items ++ term_text printer.now.levels (scope_of printer.now.names.now (E.called printer.now.entries.now) (E.in_scope printer.now.entries.now) page.old.locals) wanted term.now) }
     ensures locals { OnOk result (page.new.locals ≡ page.old.locals) }
 {
+    if let Some(hole) = printer.own_hole(&page.locals, term) {
+        return printer.push_called(&mut page.text, hole);
+    }
     let is_below = is_below(term, wanted);
     push_if(&mut page.text, is_below, b"(")?;
     push_form(printer, page, term)?;
     push_if(&mut page.text, is_below, b")")
 }
 
-/// Adds a term without parentheses around it.
+/// Adds a term that is no hole applied to its own hypotheses, without parentheses around it.
 #[cycle(terms)]
 fn push_form<E: Entries>(
     printer: &Printer<'_, E>,
     page: &mut Page,
     term: &Term,
 ) -> Result<(), AllocError>
-    requires { AreCounted printer.now.names.now (E.called printer.now.entries.now) (E.in_scope printer.now.entries.now) page.old.locals }
+    requires no_own { own_hole (scope_of printer.now.names.now (E.called printer.now.entries.now) (E.in_scope printer.now.entries.now) page.old.locals) term.now ≡ None }
+    requires counted { AreCounted printer.now.names.now (E.called printer.now.entries.now) (E.in_scope printer.now.entries.now) page.old.locals }
     ensures text { OnOk result (page.new.text.items ≡ page.old.text.items ++ term_text printer.now.levels (scope_of printer.now.names.now (E.called printer.now.entries.now) (E.in_scope printer.now.entries.now) page.old.locals) 0 term.now) }
     ensures locals { OnOk result (page.new.locals ≡ page.old.locals) }
 {
     match term.view() {
         Node::Var(index) => page.text.extend_from_slice(page.locals.text(index)),
         Node::Const(number) => {
-            let name = printer.entries.name_of(number);
-            page.text.extend_from_slice(printer.named(name))
+            printer.push_called(&mut page.text, printer.entries.constant(number))
         }
         Node::Prop => page.text.extend_from_slice(b"Prop"),
         Node::Univ(level) => push_level(&mut page.text, printer.levels, level),

@@ -8,6 +8,8 @@ pub mod desk;
 mod developments;
 pub mod few;
 #[cfg(test)]
+mod holes;
+#[cfg(test)]
 mod refusals;
 #[cfg(test)]
 mod terms;

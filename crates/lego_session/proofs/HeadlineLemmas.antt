@@ -17,6 +17,7 @@ use Rattle.lego_context.specs.Contexts.{Contents, IsContext, AreOverFronts, Hold
 use Rattle.lego_context.specs.Entries.{HasNoHole, constraints_of}
 use Rattle.lego_context.specs.Settling.{IsSettled}
 use Rattle.lego_context.proofs.EntryLemmas.{kept_is}
+use Rattle.lego_print.specs.declared.called.Called.{Called}
 use Rattle.lego_print.specs.declared.item.Item.{Item as Printed}
 use Rattle.lego_print.specs.declared.shown.Shown.{Shown}
 use Rattle.lego_print.specs.declared.universes.Universe.{Universe as Listed}
@@ -24,7 +25,7 @@ use Rattle.lego_print.specs.Names.{Scope}
 use Rattle.lego_print.specs.Texts.{outer_scope}
 use Rattle.lego_print.specs.Entries.{item_entries, entry_text, entry_command}
 use Rattle.lego_print.specs.EntryLines.{entry_lines}
-use Rattle.lego_print.specs.Developments.{name_in, with_entry, entry_commands, occurs_in, universe_lines, IsDevelopment}
+use Rattle.lego_print.specs.Developments.{called_in, with_entry, entry_commands, occurs_in, universe_lines, IsDevelopment}
 use Rattle.lego_print.specs.Denoted.{IsSmall}
 use Rattle.lego_print.specs.ReadBack.{IsLeast as IsLeastShown}
 use Rattle.lego_print.specs.Showable.{IsSmallEntry, PrintedDevelopmentsDenote}
@@ -67,7 +68,7 @@ occurs_told [] u = refl
 occurs_told (e ∷ es) u = ap (λ (b : Bool). (uses_level u e.ty || unwrap_or (option_map (uses_level u) e.body) false) || b) (occurs_told es u)
 
 -- a development of what the entries tell is one of the entries
-development_told : {v : Assignment} {names : Names} {constant : ℕ → Option ℕ} {us : List Listed} {text : List ℕ} (es : List Item)
+development_told : {v : Assignment} {names : Names} {constant : ℕ → Called} {us : List Listed} {text : List ℕ} (es : List Item)
     → IsDevelopment v names constant (all_told es) us text → IsDevelopment v names constant (laws_entries es) us text
 development_told {v} {names} {constant} {us} es d = record {
   levels = d.levels;
@@ -96,16 +97,16 @@ module _ (names : Names) (c : Contents) (v : Assignment) (settled : IsSettled c 
       All-weaker HasSmallPlace (IsSmall v) (λ u h. record { line = h.line; column = h.column; value = let n = settled.within u.variable in omega (arith, n) }) us places
 
   module _ (items : List Printed) (tell : item_entries items ≡ all_told c.entries) (us : List Listed) (is : us ≡ map listed c.universes) (text : List ℕ)
-      (made : IsDevelopment v names (name_in (laws_entries c.entries)) (item_entries items) us text) where
-    development : IsDevelopment v names (name_in (laws_entries c.entries)) (laws_entries c.entries) us text
-    development = development_told c.entries (subst (λ (es : List Entry). IsDevelopment v names (name_in (laws_entries c.entries)) es us text) tell made)
+      (made : IsDevelopment v names (called_in (laws_entries c.entries)) (item_entries items) us text) where
+    development : IsDevelopment v names (called_in (laws_entries c.entries)) (laws_entries c.entries) us text
+    development = development_told c.entries (subst (λ (es : List Entry). IsDevelopment v names (called_in (laws_entries c.entries)) es us text) tell made)
 
     -- it is the development of the context
     printed : IsPrinted names c text
     printed = record {
       values = v;
       settled = settled;
-      development = subst (λ (xs : List Listed). IsDevelopment v names (name_in (laws_entries c.entries)) (laws_entries c.entries) xs text) is development;
+      development = subst (λ (xs : List Listed). IsDevelopment v names (called_in (laws_entries c.entries)) (laws_entries c.entries) xs text) is development;
     }
 
     -- and denotes its entries
@@ -131,22 +132,22 @@ module _ (names : Names) (c : Contents) (v : Assignment) (settled : IsSettled c 
 module _ (names : Names) (c : Contents) (v v' : Assignment) (settled : IsSettled c [] c.levels v) (same : v' ≡ v)
     (items items' : List Printed) (tell : item_entries items ≡ all_told c.entries) (same_items : items' ≡ items)
     (us us' : List Listed) (is : us ≡ map listed c.universes) (same_universes : us' ≡ us) (f : List Item × ℕ) (all : f ≡ (c.entries, length c.entries)) where
-  made_of : {text : List ℕ} → IsDevelopment v' names (name_in (laws_entries f.0)) (item_entries items') us' text
-      → IsDevelopment v names (name_in (laws_entries c.entries)) (item_entries items) us text
+  made_of : {text : List ℕ} → IsDevelopment v' names (called_in (laws_entries f.0)) (item_entries items') us' text
+      → IsDevelopment v names (called_in (laws_entries c.entries)) (item_entries items) us text
   made_of {text} h =
-      subst (λ (w : Assignment). IsDevelopment w names (name_in (laws_entries c.entries)) (item_entries items) us text) same
-      (subst (λ (xs : List Printed). IsDevelopment v' names (name_in (laws_entries c.entries)) (item_entries xs) us text) same_items
-      (subst (λ (xs : List Listed). IsDevelopment v' names (name_in (laws_entries c.entries)) (item_entries items') xs text) same_universes
-      (subst (λ (g : List Item × ℕ). IsDevelopment v' names (name_in (laws_entries g.0)) (item_entries items') us' text) all h)))
+      subst (λ (w : Assignment). IsDevelopment w names (called_in (laws_entries c.entries)) (item_entries items) us text) same
+      (subst (λ (xs : List Printed). IsDevelopment v' names (called_in (laws_entries c.entries)) (item_entries xs) us text) same_items
+      (subst (λ (xs : List Listed). IsDevelopment v' names (called_in (laws_entries c.entries)) (item_entries items') xs text) same_universes
+      (subst (λ (g : List Item × ℕ). IsDevelopment v' names (called_in (laws_entries g.0)) (item_entries items') us' text) all h)))
 
-  pub all_printed : {E : Type 0} (r : Result (Vec ℕ Global) E) → IfOk r (λ text. IsDevelopment v' names (name_in (laws_entries f.0)) (item_entries items') us' text.items)
+  pub all_printed : {E : Type 0} (r : Result (Vec ℕ Global) E) → IfOk r (λ text. IsDevelopment v' names (called_in (laws_entries f.0)) (item_entries items') us' text.items)
       → IfOk r (λ text. IsPrinted names c text.items)
   all_printed (Ok text) h = printed names c v settled items tell us is text.items (made_of h)
   all_printed (Err e) h = tt
 
   pub all_denote : {E : Type 0} → IsContext c → AreOverFronts c → HoldsByLuosRules c → HasNoHole c.entries → AreTrueNames names → AreKnown names c → AreDistinct names
       → All (IsSmallEntry v) (item_entries items) → All HasSmallPlace us → PrintedDevelopmentsDenote
-      → (r : Result (Vec ℕ Global) E) → IfOk r (λ text. IsDevelopment v' names (name_in (laws_entries f.0)) (item_entries items') us' text.items)
+      → (r : Result (Vec ℕ Global) E) → IfOk r (λ text. IsDevelopment v' names (called_in (laws_entries f.0)) (item_entries items') us' text.items)
       → IfOk r (λ text. Headline names c text.items)
   all_denote context over pure none true_names known distinct small places law (Ok text) h =
       headline names c v settled items tell us is text.items (made_of h) context over pure none true_names known distinct small places law

@@ -15,7 +15,7 @@ use Rattle.lego_print.specs.declared.universes.Universe.{Universe as Listed}
 use Rattle.lego_print.specs.Names.{Scope}
 use Rattle.lego_print.specs.Texts.{outer_scope, term_text}
 use Rattle.lego_print.specs.EntryLines.{entry_lines}
-use Rattle.lego_print.specs.Developments.{name_in, IsDevelopment}
+use Rattle.lego_print.specs.Developments.{called_in, IsDevelopment}
 use Rattle.lego_print.specs.ReadBack.{IsLeast}
 
 -- where a script begins
@@ -24,7 +24,7 @@ first_place = record { line = 1; column = 1 }
 
 -- what the names of a text stand among: constants are called by all the entries, and some of these are in scope
 abbrev pub scope_among : Names → (all inside : List Item) → Scope
-scope_among names all inside = outer_scope names (name_in (laws_entries all)) (names_of inside)
+scope_among names all inside = outer_scope names (called_in (laws_entries all)) (names_of inside)
 
 -- all the entries are in scope
 abbrev pub entries_scope : Names → List Item → Scope
@@ -56,4 +56,4 @@ listed u = record { variable = u.variable; place = u.place }
 pub record IsPrinted (names : Names) (c : Contents) (text : List ℕ) : Type 0 where
   pub values : Assignment
   pub settled : IsSettled c [] c.levels values
-  pub development : IsDevelopment values names (name_in (laws_entries c.entries)) (laws_entries c.entries) (map listed c.universes) text
+  pub development : IsDevelopment values names (called_in (laws_entries c.entries)) (laws_entries c.entries) (map listed c.universes) text

@@ -4,7 +4,7 @@ ghost use Rattle.lego_context.specs.Entries.{HasNoHole};
 ghost use Rattle.lego_session.specs.private.Items.{name_at};
 
 use lego_context::Context;
-use lego_print::Entries;
+use lego_print::{Called, Entries};
 use std::marker::Model;
 
 /// The entries of a context, none of which is a hole. Those before a place are in scope.
@@ -54,11 +54,11 @@ impl<'a> Entries for Front<'a> {
     ghost use Rattle.std.specs.Prelude.{take};
     ghost use Rattle.lego_context.specs.Entries.{names_of};
     ghost use Rattle.lego_inference.specs.Entries.{laws_entries};
-    ghost use Rattle.lego_print.specs.Developments.{name_in};
+    ghost use Rattle.lego_print.specs.Developments.{called_in};
 
     ghost in_scope = { λ f. names_of (take f.1 f.0) };
 
-    ghost called = { λ f. name_in (laws_entries f.0) };
+    ghost called = { λ f. called_in (laws_entries f.0) };
 
     fn count(&self) -> u32 {
         let _entries = self.context.len();
@@ -72,10 +72,10 @@ impl<'a> Entries for Front<'a> {
         }
     }
 
-    fn name_of(&self, number: u32) -> Option<u32> {
+    fn constant(&self, number: u32) -> Called {
         match self.context.find(number) {
-            Some(at) => name_at(self.context, at),
-            None => None,
+            Some(at) => Called::by(name_at(self.context, at)),
+            None => Called::Unknown,
         }
     }
 }

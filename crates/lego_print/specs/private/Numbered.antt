@@ -3,6 +3,7 @@ use Rattle.std.specs.Prelude.{ℕ, List, map, reverse, Option, option_map}
 use Rattle.std.specs.List.{filter_map}
 use Rattle.lego_grammar.specs.Grammar.{Names}
 use Rattle.lego_print.specs.declared.locals.Frame.{Frame}
+use Rattle.lego_print.specs.declared.called.Called.{Called}
 use Rattle.lego_print.specs.Names.{Scope}
 
 -- a printed name, the name that was wished, and the number behind it
@@ -27,5 +28,5 @@ abbrev pub frame_texts : List (Option Frame) → List (List ℕ)
 frame_texts frames = filter_map (option_map (λ (f : Frame). f.text.items)) frames
 
 -- what the names of a text stand among, under these local variables
-abbrev pub scope_of : Names → (ℕ → Option ℕ) → List ℕ → List (Option Numbered) → Scope
+abbrev pub scope_of : Names → (ℕ → Called) → List ℕ → List (Option Numbered) → Scope
 scope_of names called entries locals = record { names = names; constant = called; entries = entries; locals = printed locals }

@@ -1,12 +1,14 @@
 -- The texts of parts of terms.
-use Rattle.std.specs.Prelude.{ℕ, nat_lt, Bool, false, if◌then◌else◌, List, ◌++◌, codes, Option}
-use Rattle.lego_term.specs.Trees.{Core, Pi, Lam, App, Sigma, Let}
+use Rattle.std.specs.Prelude.{ℕ, zero, suc, nat_lt, Bool, false, if◌then◌else◌, List, ◌++◌, codes, Option, Some, None}
+use Rattle.lego_term.specs.Trees.{Core, Const, Pi, Lam, App, Sigma, Let}
 use Rattle.lego_term.specs.declared.binder.Binder.{Binder}
 use Rattle.lego_term.specs.declared.binder.Mark.{Mark}
 use Rattle.lego_print.specs.declared.shown.Shown.{Shown}
 use Rattle.lego_print.specs.declared.term.Infix.{Infix}
 use Rattle.lego_print.specs.declared.term.Brackets.{Brackets}
+use Rattle.lego_print.specs.declared.called.Called.{Called}
 use Rattle.lego_print.specs.Names.{Scope}
+use Rattle.lego_print.specs.Holes.{head_called, stands_at_its_hypotheses, is_local_at}
 use Rattle.lego_print.specs.Texts.{term_text, sign_text, argument_sign, binder_name, bound, unbound, is_arrow, is_unused, sigma_rank}
 
 -- two parts with a symbol between
@@ -55,3 +57,14 @@ is_below wanted (Let x m n) = nat_lt 0 wanted
 is_below wanted (Sigma x a b) = nat_lt (sigma_rank b) wanted
 is_below wanted (App mark m n) = nat_lt 2 wanted
 is_below wanted _ = false
+
+-- the constant that is applied to the outermost k of d local variables, in order, and to nothing else
+abbrev pub applied_constant : ℕ → Core → ℕ → Option ℕ
+applied_constant d (Const c) zero = Some c
+applied_constant d (App mark m n) (suc k) = if is_local_at d k n then applied_constant d m k else None
+applied_constant d _ k = None
+
+-- the hole that an application applies to exactly its own hypotheses
+abbrev pub own_hole : Scope → Core → Option Called
+own_hole scope (App mark m n) = if stands_at_its_hypotheses scope (App mark m n) then Some (head_called scope m) else None
+own_hole scope _ = None
