@@ -143,7 +143,10 @@ fn chained(
             Order::Upwards => turn,
             Order::Downwards => count - 1 - turn,
         };
-        development.define_as(turn as u32, &universes[at], &universes[at + 1])?;
+        let Ok(name) = u32::try_from(turn) else {
+            return Err(BenchFault::Usage);
+        };
+        development.define_as(name, &universes[at], &universes[at + 1])?;
     }
     Ok(())
 }
