@@ -71,34 +71,41 @@ pub(crate) fn run_contexts(
     workload: Workload,
     size: u32,
 ) -> Result<Added, BenchFault> {
-    match workload {
-        Workload::Definitions => definitions(alloc, size),
-        Workload::Universes(order) => universes(alloc, size, order),
-        Workload::Refusals => refusals(alloc, size),
-        Workload::Tree => tree(alloc, size),
-        Workload::Telescope => telescope(alloc, size),
-        Workload::Doubling => doubling(alloc, size),
-    }
-}
-
-/// What a development came to.
-fn counted(development: &Development, refused: u64) -> Added {
+    let mut development = Development::new(alloc);
+    let refused = develop(alloc, &mut development, workload, size)?;
     let (entries, levels) = development.counts();
-    Added {
+    Ok(Added {
         entries,
         levels,
         refused,
+    })
+}
+
+/// Adds the entries of a workload to the empty development. The answer is how many were refused.
+fn develop(
+    alloc: Global,
+    development: &mut Development,
+    workload: Workload,
+    size: u32,
+) -> Result<u64, BenchFault> {
+    match workload {
+        Workload::Definitions => definitions(alloc, development, size)?,
+        Workload::Universes(order) => universes(alloc, development, size, order)?,
+        Workload::Tree => tree(alloc, development, size)?,
+        Workload::Telescope => telescope(alloc, development, size)?,
+        Workload::Refusals => return refusals(alloc, development, size),
+        Workload::Doubling => return doubling(alloc, development, size),
     }
+    Ok(0)
 }
 
 /// Definitions of functions on the proofs of a proposition, each of which applies the one before.
-fn definitions(alloc: Global, size: u32) -> Result<Added, BenchFault> {
-    let mut development = Development::new(alloc);
+fn definitions(alloc: Global, development: &mut Development, size: u32) -> Result<(), BenchFault> {
     development.assume(PROPOSITION, &prop(alloc)?)?;
     for before in 0..size {
         development.define(before + 1, &function(alloc, before)?)?;
     }
-    Ok(counted(&development, 0))
+    Ok(())
 }
 
 /// The function that applies the definition of this number; the first one is the identity.
@@ -110,23 +117,6 @@ fn function(alloc: Global, before: u32) -> Result<Term, TermFault> {
     }
     let applied = app(alloc, Mark::Plain, &konst(alloc, before)?, &argument)?;
     lam(alloc, PLAIN, &proposition, &applied)
-}
-
-/// The definitions `Type i` of the type `Type (i + 1)`.
-fn chained(
-    development: &mut Development,
-    universes: &[Term],
-    order: Order,
-) -> Result<(), BenchFault> {
-    let count = universes.len().saturating_sub(1);
-    for turn in 0..count {
-        let at = match order {
-            Order::Upwards => turn,
-            Order::Downwards => count - 1 - turn,
-        };
-        development.define_as(turn as u32, &universes[at], &universes[at + 1])?;
-    }
-    Ok(())
 }
 
 /// One `Type` more than so many.
@@ -141,39 +131,65 @@ fn types(alloc: Global, development: &mut Development, size: u32) -> Result<Vec<
     Ok(universes)
 }
 
+/// The definitions `Type i` of the type `Type (i + 1)`.
+fn chained(
+    development: &mut Development,
+    universes: &[Term],
+    order: Order,
+) -> Result<(), BenchFault> {
+    let count = universes.len().saturating_sub(1);
+    for turn in 0..count {
+        let at = match order {
+            Order::Upwards => turn,
+            Order::Downwards => count - 1 - turn,
+        };
+        let Ok(name) = u32::try_from(turn) else {
+            return Err(BenchFault::Usage);
+        };
+        development.define_as(name, &universes[at], &universes[at + 1])?;
+    }
+    Ok(())
+}
+
 /// A chain of so many universes, each in the next one.
-fn universes(alloc: Global, size: u32, order: Order) -> Result<Added, BenchFault> {
-    let mut development = Development::new(alloc);
-    let universes = types(alloc, &mut development, size)?;
-    chained(&mut development, &universes, order)?;
-    Ok(counted(&development, 0))
+fn universes(
+    alloc: Global,
+    development: &mut Development,
+    size: u32,
+    order: Order,
+) -> Result<(), BenchFault> {
+    let universes = types(alloc, development, size)?;
+    chained(development, &universes, order)
 }
 
 /// A chain of universes, whose last is refused as an element of the first.
-fn refusals(alloc: Global, size: u32) -> Result<Added, BenchFault> {
-    let mut development = Development::new(alloc);
-    let universes = types(alloc, &mut development, size)?;
-    chained(&mut development, &universes, Order::Upwards)?;
+fn refusals(alloc: Global, development: &mut Development, size: u32) -> Result<u64, BenchFault> {
+    let universes = types(alloc, development, size)?;
+    chained(development, &universes, Order::Upwards)?;
     let (Some(first), Some(last)) = (universes.first(), universes.last()) else {
         return Err(BenchFault::Usage);
     };
-    let mut refused = 0u64;
-    for _ in 0..REFUSALS {
-        let cycle = development.define_as(size, last, first) == Err(BenchFault::Cycle);
-        refused = refused.saturating_add(u64::from(cycle));
-    }
-    Ok(counted(&development, refused))
+    Ok(closed(development, size, first, last))
 }
 
-/// The development of a proposition, an operation on its proofs, and a proof.
-fn operation(alloc: Global) -> Result<Development, BenchFault> {
-    let mut development = Development::new(alloc);
+/// How often it is refused, of many times, that a chain is closed to a cycle.
+fn closed(development: &mut Development, name: u32, first: &Term, last: &Term) -> u64 {
+    let mut refused = 0u64;
+    for _ in 0..REFUSALS {
+        if development.define_as(name, last, first) == Err(BenchFault::Cycle) {
+            refused = refused.saturating_add(1);
+        }
+    }
+    refused
+}
+
+/// A proposition, an operation on its proofs, and a proof.
+fn operation(alloc: Global, development: &mut Development) -> Result<(), BenchFault> {
     development.assume(PROPOSITION, &prop(alloc)?)?;
     let proposition = konst(alloc, PROPOSITION)?;
     let unary = pi(alloc, PLAIN, &proposition, &proposition)?;
     development.assume(OPERATION, &pi(alloc, PLAIN, &proposition, &unary)?)?;
-    development.assume(PROOF, &proposition)?;
-    Ok(development)
+    development.assume(PROOF, &proposition)
 }
 
 /// The operation on a proof twice.
@@ -182,44 +198,56 @@ fn squared(alloc: Global, proof: &Term) -> Result<Term, TermFault> {
     app(alloc, Mark::Plain, &function, proof)
 }
 
-/// One definition, whose body is a full tree of operations, so many deep.
-fn tree(alloc: Global, size: u32) -> Result<Added, BenchFault> {
-    let mut development = operation(alloc)?;
+/// A full tree of operations, so many deep.
+fn full_tree(alloc: Global, size: u32) -> Result<Term, TermFault> {
     let mut body = konst(alloc, PROOF)?;
     for _ in 0..size {
         body = squared(alloc, &body)?;
     }
-    development.define(PROOF + 1, &body)?;
-    Ok(counted(&development, 0))
+    Ok(body)
 }
 
-/// One assumption, whose type begins with so many products.
-fn telescope(alloc: Global, size: u32) -> Result<Added, BenchFault> {
-    let mut development = Development::new(alloc);
-    development.assume(PROPOSITION, &prop(alloc)?)?;
+/// One definition, whose body is a full tree of operations.
+fn tree(alloc: Global, development: &mut Development, size: u32) -> Result<(), BenchFault> {
+    operation(alloc, development)?;
+    development.define(PROOF + 1, &full_tree(alloc, size)?)
+}
+
+/// A type that begins with so many products.
+fn products(alloc: Global, size: u32) -> Result<Term, TermFault> {
     let proposition = konst(alloc, PROPOSITION)?;
     let mut ty = konst(alloc, PROPOSITION)?;
     for _ in 0..size {
         ty = pi(alloc, PLAIN, &proposition, &ty)?;
     }
-    development.assume(OPERATION, &ty)?;
-    Ok(counted(&development, 0))
+    Ok(ty)
 }
 
-/// A body with so many local definitions, each of which has the one before it twice. It is refused
-/// as too large where its weight passes the limit.
-fn doubling(alloc: Global, size: u32) -> Result<Added, BenchFault> {
-    let mut development = operation(alloc)?;
+/// One assumption of a type that begins with products.
+fn telescope(alloc: Global, development: &mut Development, size: u32) -> Result<(), BenchFault> {
+    development.assume(PROPOSITION, &prop(alloc)?)?;
+    development.assume(OPERATION, &products(alloc, size)?)
+}
+
+/// A body with so many local definitions, each of which has the one before it twice.
+fn doubled(alloc: Global, size: u32) -> Result<Term, TermFault> {
     let twice = squared(alloc, &var(alloc, 0)?)?;
     let mut body = var(alloc, 0)?;
     for _ in 0..size {
         body = local(alloc, PLAIN, &twice, &body)?;
     }
-    let body = local(alloc, PLAIN, &konst(alloc, PROOF)?, &body)?;
+    local(alloc, PLAIN, &konst(alloc, PROOF)?, &body)
+}
+
+/// How often a body whose weight doubles is refused, of many times, since it passes the limit.
+fn doubling(alloc: Global, development: &mut Development, size: u32) -> Result<u64, BenchFault> {
+    operation(alloc, development)?;
+    let body = doubled(alloc, size)?;
     let mut refused = 0u64;
     for _ in 0..REFUSALS {
-        let too_large = development.define(PROOF + 1, &body) == Err(BenchFault::TooLarge);
-        refused = refused.saturating_add(u64::from(too_large));
+        if development.define(PROOF + 1, &body) == Err(BenchFault::TooLarge) {
+            refused = refused.saturating_add(1);
+        }
     }
-    Ok(counted(&development, refused))
+    Ok(refused)
 }

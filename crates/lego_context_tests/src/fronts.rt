@@ -53,8 +53,8 @@ fn forgetting_keeps_the_universes_that_are_named(rt: HostRuntime) -> Result<(), 
 fn last_name_again(alloc: Global, context: &mut Context) -> Result<(), Fail> {
     add_universes(alloc, context)?;
     forget(context, 3)?;
-    hold(context.position(11) == None, "the name is free")?;
-    hold(context.find(3) == None, "the number is free")?;
+    hold(context.position(11).is_none(), "the name is free")?;
+    hold(context.find(3).is_none(), "the number is free")?;
     assume(context, 11, &prop(alloc)?)?;
     hold(context.find(3) == Some(3), "the number again")?;
     hold(context.position(11) == Some(3), "the name again")
@@ -129,7 +129,7 @@ fn are_apart(alloc: Global, context: &mut Context, copy: &mut Context) -> Result
     hold(copy.universes().len() == 3, "the universes of the copy")?;
     hold(context.len() == 1, "the entries")?;
     hold(copy.position(12) == Some(4), "a name of the copy")?;
-    hold(context.position(12) == None, "no name of the original")
+    hold(context.position(12).is_none(), "no name of the original")
 }
 
 fn copied(alloc: Global, context: &mut Context) -> Result<(), Fail> {
