@@ -79,7 +79,7 @@ module _ (c : Contents) (x : IsContext c) where
   pub no_locals : AreLocals c []
   no_locals = record { types = λ v h. (x.valid v h).valid; names = tt; levels = omega arith; few = omega arith }
 
-behind : (xs ys : List Constant) (k : ℕ) → constant_of xs k ≡ None → constant_of (xs ++ ys) k ≡ constant_of ys k
+pub behind : (xs ys : List Constant) (k : ℕ) → constant_of xs k ≡ None → constant_of (xs ++ ys) k ≡ constant_of ys k
 behind [] ys k h = refl
 behind (y ∷ xs) ys k h = by_test (nat_eq y.number k) refl (behind xs ys k)
   where
@@ -88,7 +88,7 @@ behind (y ∷ xs) ys k h = by_test (nat_eq y.number k) refl (behind xs ys k)
     by_test false t more = rw t (more (rw t at h))
 
 -- a number that no entry has stands for no constant
-none_at : (v : Assignment) (k : ℕ) (es : List Item) → (Contains (numbers_of es) k → ⊥) → constant_of (entries_at v (laws_entries es)) k ≡ None
+pub none_at : (v : Assignment) (k : ℕ) (es : List Item) → (Contains (numbers_of es) k → ⊥) → constant_of (entries_at v (laws_entries es)) k ≡ None
 none_at v k [] new = refl
 none_at v k (y ∷ es) new =
     subst (λ (ys : List Constant). constant_of ys k ≡ None) (sym (entries_at-cons v y es))

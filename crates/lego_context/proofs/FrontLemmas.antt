@@ -57,7 +57,7 @@ later_bodies [] ys h = h
 later_bodies (x ∷ xs) ys h = later_bodies xs ys h.1
 
 -- the entries of two lists at an assignment, the newest first
-entries_at-append : (v : Assignment) (es ds : List Item) → entries_at v (laws_entries (es ++ ds)) ≡ entries_at v (laws_entries ds) ++ entries_at v (laws_entries es)
+pub entries_at-append : (v : Assignment) (es ds : List Item) → entries_at v (laws_entries (es ++ ds)) ≡ entries_at v (laws_entries ds) ++ entries_at v (laws_entries es)
 entries_at-append v es ds =
     ap (entries_at v) (map-append laws_entry es ds)
     ∙ ap reverse (map-append (entry_at v) (laws_entries es) (laws_entries ds))

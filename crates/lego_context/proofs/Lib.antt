@@ -12,6 +12,8 @@ pub mod FitLemmas
 pub mod TypingLemmas
 pub mod CauseLemmas
 pub mod StoreLemmas
+pub mod MentionLemmas
+pub mod OrderLemmas
 pub mod NextLemmas
 pub mod CutLemmas
 pub mod SettleLemmas

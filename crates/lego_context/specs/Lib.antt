@@ -5,6 +5,7 @@ pub mod Causes
 pub mod Changes
 pub mod Calls
 pub mod Settling
+pub mod Solving
 pub mod Typed
 pub mod Forgetting
 pub mod Cutting

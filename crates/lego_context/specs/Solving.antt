@@ -1,5 +1,5 @@
 -- A body for a hole.
-use Rattle.std.specs.Prelude.{◌≡◌, ℕ, List, [], ◌∷◌, ◌++◌, slice_get, Some, Result, Ok, Err}
+use Rattle.std.specs.Prelude.{◌≡◌, ℕ, List, [], ◌∷◌, ◌++◌, Result, Ok, Err}
 use Rattle.lego_base.specs.declared.place.Place.{Place}
 use Rattle.lego_term.specs.Trees.{Core}
 use Rattle.lego_laws.specs.Entries.{Entry}
@@ -10,27 +10,14 @@ use Rattle.lego_level.specs.declared.constraint.Constraint.{Constraint}
 use Rattle.lego_level.specs.Graphs.{pairs_of, CanBeSatisfiedWithin}
 use Rattle.lego_inference.specs.declared.entry.At.{At}
 use Rattle.lego_inference.specs.declared.entry.Entry.{Entry as Item}
-use Rattle.lego_inference.specs.declared.entry.EntryKind.TheVariants.{Hole, Filled}
+use Rattle.lego_inference.specs.declared.entry.EntryKind.TheVariants.{Hole}
 use Rattle.lego_inference.specs.declared.fault.TypeFault.{TypeFault}
 use Rattle.lego_inference.specs.declared.fault.TypeFault.TheVariants.{Circular, Memory}
 use Rattle.lego_inference.specs.Calls.{IsTermOver, task_over}
-use Rattle.lego_inference.specs.Entries.{laws_entries}
+use Rattle.lego_inference.specs.Entries.{laws_entries, filled}
 use Rattle.lego_inference.specs.Inferred.{AreGathered}
 use Rattle.lego_context.specs.Contexts.{Contents}
 use Rattle.lego_context.specs.Causes.{together, TypingFails}
-
--- the hole with a body, and further constraints
-abbrev pub filled : Item → Core → List Constraint → Item
-filled e body more = record {
-  number = e.number;
-  name = e.name;
-  mark = e.mark;
-  kind = Filled;
-  ty = e.ty;
-  body = Some body;
-  hypotheses = e.hypotheses;
-  constraints = e.constraints ++ more;
-}
 
 -- The entries are the first ones, then the hole of the number, which has no body, then those behind it.
 pub record HasHole (es : List Item) (number : ℕ) (before : List Item) (e : Item) (behind : List Item) : Type 0 where
