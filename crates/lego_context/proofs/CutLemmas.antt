@@ -26,7 +26,7 @@ use Rattle.lego_context.proofs.UniverseLemmas.{universes-take}
 
 module _ {X : Type 0} where
   -- the first items of a list that is put together
-  front_of_append : (xs ys : List X) (n : ℕ) → n ≡ length xs → take n (xs ++ ys) ≡ xs
+  pub front_of_append : (xs ys : List X) (n : ℕ) → n ≡ length xs → take n (xs ++ ys) ≡ xs
   front_of_append [] ys n is = rw is refl
   front_of_append (x ∷ xs) ys n is = rw is (ap (λ zs. x ∷ zs) (front_of_append xs ys (length xs) refl))
 

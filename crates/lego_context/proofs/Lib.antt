@@ -14,6 +14,7 @@ pub mod CauseLemmas
 pub mod StoreLemmas
 pub mod MentionLemmas
 pub mod OrderLemmas
+pub mod SolveLemmas
 pub mod NextLemmas
 pub mod CutLemmas
 pub mod SettleLemmas

@@ -27,7 +27,7 @@ length-taken [] (suc i) l = absurd (omega (arith, l))
 length-taken (x ∷ xs) (suc i) l = ap suc (length-taken xs i (omega (arith, l)))
 
 -- the last of items that differ is none of the others
-last_differs : (xs : List ℕ) (y : ℕ) → Differ (xs ++ y ∷ []) → Contains xs y → ⊥
+pub last_differs : (xs : List ℕ) (y : ℕ) → Differ (xs ++ y ∷ []) → Contains xs y → ⊥
 last_differs [] y d c = absurd (omega (arith, c.1))
 last_differs (x ∷ xs) y d (zero, l, same) = at_end xs d.0
   where

@@ -69,7 +69,7 @@ module _ (v : Assignment) where
       constant_is es d' k ∙ ap (λ n. option_map (entry_at v) (entry_of (laws_entries es) n)) (sym f.number)
       ∙ ap (option_map (entry_at v)) there ∙ ap (λ (x : Entry). Some (entry_at v x)) f.entry ∙ ap (λ (c : Constant). Some c) s.2
 
-  number_found : (es : List Item) (k : ℕ) → Differ (numbers_of es) → Contains (numbers_of es) k → IsTrue (has_constant (entries_at v (laws_entries es)) k)
+  pub number_found : (es : List Item) (k : ℕ) → Differ (numbers_of es) → Contains (numbers_of es) k → IsTrue (has_constant (entries_at v (laws_entries es)) k)
   number_found es k d c = ap found_in (constant_is es d k) ∙ has es c
     where
       has : (xs : List Item) → Contains (numbers_of xs) k → found_in (option_map (entry_at v) (entry_of (laws_entries xs) k)) ≡ true
