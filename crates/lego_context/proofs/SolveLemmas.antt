@@ -1,10 +1,10 @@
 -- The entries stay valid where a hole gets a body, and the entries that the body reaches go before it.
-use Rattle.std.proofs.Common.{◌≡◌, ℕ, zero, suc, ◌<◌, nat_eq, Bool, true, false, IsTrue, IsSome, ◌||◌, ◌⊎◌, inl, inr, ⊎_elim, List, [], ◌∷◌, ◌++◌, take, length, slice_get, Option, Some, None, option_map, unwrap_or, IfSome, All, Contains, refl, sym, ap, ◌∙◌, subst, append_assoc, arith}
+use Rattle.std.proofs.Common.{◌≡◌, ℕ, zero, suc, ◌<◌, ◌≤◌, nat_eq, Bool, true, false, IsTrue, IsSome, ◌||◌, ◌⊎◌, inl, inr, ⊎_elim, List, [], ◌∷◌, ◌++◌, take, length, slice_get, Option, Some, None, option_map, unwrap_or, IfSome, All, Contains, refl, sym, ap, ◌∙◌, subst, append_assoc, arith}
 use Rattle.std.specs.List.Sorted.{IsPermutation}
 use Rattle.std.proofs.lemmas.Bool.Decides.{nat_tests}
 use Rattle.std.proofs.lemmas.List.{map-append}
 use Rattle.std.proofs.lemmas.List.Elements.{Contains-append_left, All-head, All-tail, All-cons, All-append, All-nil}
-use Rattle.std.proofs.lemmas.List.Sorted.{IsPermutation-refl, IsPermutation-sym, IsPermutation-trans, IsPermutation-cons, IsPermutation-middle, IsPermutation-append_left, Contains-permutation, All-permutation}
+use Rattle.std.proofs.lemmas.List.Sorted.{IsPermutation-refl, IsPermutation-sym, IsPermutation-trans, IsPermutation-cons, IsPermutation-middle, IsPermutation-append_right, Contains-permutation, All-permutation}
 use Rattle.lego_term.specs.declared.level.Level.{Level}
 use Rattle.lego_term.specs.Levels.{Assignment, SatisfiesAll}
 use Rattle.lego_term.specs.Trees.{Core, at, mentions}
@@ -166,8 +166,8 @@ module _ (c : Contents) (x : IsContext c) (body : Core) where
     reached_follow (xs ++ y ∷ []) (new ++ y ∷ []) (next_split xs ys y is) p
     (λ k h to. in_next xs (new ++ y ∷ []) y k (λ i. in_front new (y ∷ []) k (agree k i to)) (λ same. last_in new y k same) h),
   )
-  reached_follow xs new is (Parts.other {e = y} {behind = ys} no p) agree =
-      reached_follow (xs ++ y ∷ []) new (next_split xs ys y is) p (λ k h to. in_next xs new y k (λ i. agree k i to) (λ same. absurd (no (subst reaches (sym same) to))) h)
+  reached_follow xs new is (Parts.other {e = y} {behind = ys} un p) agree =
+      reached_follow (xs ++ y ∷ []) new (next_split xs ys y is) p (λ k h to. in_next xs new y k (λ i. agree k i to) (λ same. absurd (un (subst reaches (sym same) to))) h)
 
   -- so do the others, behind the front and the reached ones
   others_follow : {behind reached others : List Item} (xs new : List Item) → c.entries ≡ xs ++ behind → Parts (laws_entries c.entries) body behind reached others
@@ -175,7 +175,7 @@ module _ (c : Contents) (x : IsContext c) (body : Core) where
   others_follow xs new is Parts.none agree rest = tt
   others_follow xs new is (Parts.reached {e = y} {behind = ys} r p) agree rest =
       others_follow (xs ++ y ∷ []) new (next_split xs ys y is) p (λ k h. in_next xs new y k (agree k) (λ same. rest k (0, omega arith, same)) h) (λ k i. rest k (suc i.0, omega (arith, i.1), i.2))
-  others_follow xs new is (Parts.other {e = y} {behind = ys} no p) agree rest = (
+  others_follow xs new is (Parts.other {e = y} {behind = ys} un p) agree rest = (
     λ k m. agree k (old_follows xs ys y is k m),
     others_follow (xs ++ y ∷ []) (new ++ y ∷ []) (next_split xs ys y is) p
     (λ k h. in_next xs (new ++ y ∷ []) y k (λ i. in_front new (y ∷ []) k (agree k i)) (λ same. last_in new y k same) h) (λ k i. in_front new (y ∷ []) k (rest k i)),
@@ -185,11 +185,105 @@ module _ (c : Contents) (x : IsContext c) (body : Core) where
   reached_in Parts.none k h to = h
   reached_in (Parts.reached r p) k (zero, l, same) to = (0, omega arith, same)
   reached_in (Parts.reached r p) k (suc i, l, same) to = let h = reached_in p k (i, omega (arith, l), same) to in (suc h.0, omega (arith, h.1), h.2)
-  reached_in (Parts.other no p) k (zero, l, same) to = absurd (no (subst reaches (sym same) to))
-  reached_in (Parts.other no p) k (suc i, l, same) to = reached_in p k (i, omega (arith, l), same) to
+  reached_in (Parts.other un p) k (zero, l, same) to = absurd (un (subst reaches (sym same) to))
+  reached_in (Parts.other un p) k (suc i, l, same) to = reached_in p k (i, omega (arith, l), same) to
 
   parts_moved : {behind reached others : List Item} → Parts (laws_entries c.entries) body behind reached others → IsPermutation behind (reached ++ others)
   parts_moved Parts.none = IsPermutation-refl []
   parts_moved (Parts.reached {e = y} {behind = ys} {reached = rs} {others = os} r p) = IsPermutation-cons y ys (rs ++ os) (parts_moved p)
-  parts_moved (Parts.other {e = y} {behind = ys} {reached = rs} {others = os} no p) =
+  parts_moved (Parts.other {e = y} {behind = ys} {reached = rs} {others = os} un p) =
       IsPermutation-trans (y ∷ ys) (y ∷ (rs ++ os)) (rs ++ y ∷ os) (IsPermutation-cons y ys (rs ++ os) (parts_moved p)) (IsPermutation-sym (rs ++ y ∷ os) (y ∷ (rs ++ os)) (IsPermutation-middle rs y os))
+
+module _ (c : Contents) (x : IsContext c) (number : ℕ) (body : Core) (term : IsTermOver c.entries [] c.levels body)
+    (before behind reached others : List Item) (e : Item) (hole : HasHole c.entries number before e behind)
+    (acyclic : Reaches (laws_entries c.entries) body number → ⊥) (parts : Parts (laws_entries c.entries) body behind reached others) where
+  abbrev front : List Item
+  front = before ++ reached
+
+  abbrev moved : List Item
+  moved = front ++ e ∷ others
+
+  pub is_moved : IsPermutation c.entries moved
+  is_moved =
+      let first : IsPermutation (e ∷ behind) (e ∷ (reached ++ others)) = IsPermutation-cons e behind (reached ++ others) (parts_moved c x body parts) in
+      let back : IsPermutation (e ∷ (reached ++ others)) (reached ++ e ∷ others) = IsPermutation-sym (reached ++ e ∷ others) (e ∷ (reached ++ others)) (IsPermutation-middle reached e others) in
+      let whole : IsPermutation (before ++ e ∷ behind) (before ++ (reached ++ e ∷ others)) = IsPermutation-append_right before (e ∷ behind) (reached ++ e ∷ others) (IsPermutation-trans (e ∷ behind) (e ∷ (reached ++ others)) (reached ++ e ∷ others) first back) in
+      subst (λ (zs : List Item). IsPermutation c.entries zs) (sym (append_assoc before reached (e ∷ others))) (subst (λ (zs : List Item). IsPermutation zs (before ++ (reached ++ e ∷ others))) (sym hole.entries) whole)
+
+  moved_back : IsPermutation moved c.entries
+  moved_back = IsPermutation-sym c.entries moved is_moved
+
+  differ : Differ (numbers_of moved)
+  differ = differ_permuted c.entries moved is_moved x.numbers
+
+  differ_front : Differ (numbers_of front)
+  differ_front = front_differs front (e ∷ others) differ
+
+  split : c.entries ≡ (before ++ e ∷ []) ++ behind
+  split = next_split c x body before behind e hole.entries
+
+  earlier_front : (v : Assignment) → MentionEarlier (entries_at v (laws_entries front))
+  earlier_front v =
+      earlier v before reached differ_front (earlier v [] before (front_differs before reached differ_front) tt (front_follow c x body [] before (e ∷ behind) hole.entries))
+      (reached_follow c x body (before ++ e ∷ []) before split parts
+      (λ k h to. in_next c x body before before e k (λ i. i) (λ same. absurd (acyclic (subst (λ n. Reaches (laws_entries c.entries) body n) (sym same ∙ hole.number_is) to))) h))
+
+  earlier_moved : (v : Assignment) → MentionEarlier (entries_at v (laws_entries moved))
+  earlier_moved v =
+      earlier v front (e ∷ others) differ (earlier_front v) (
+        λ k m. in_front before reached k (old_follows c x body before behind e hole.entries k m),
+        others_follow c x body (before ++ e ∷ []) (front ++ e ∷ []) split parts
+        (λ k h. in_next c x body before (front ++ e ∷ []) e k (λ i. in_front front (e ∷ []) k (in_front before reached k i)) (λ same. last_in c x body front e k same) h)
+        (λ k i. in_front front (e ∷ []) k (in_back before reached k i)),
+      )
+
+  -- what the body mentions stands before the hole
+  in_body : (k : ℕ) → IsTrue (mentions k body) → Contains (numbers_of front) k
+  in_body k i =
+      let all : Contains (numbers_of c.entries) k = some_listed c.entries k (leaf_mentioned (λ n. IsSome (entry_of (laws_entries c.entries) n)) (λ l. l.plus ≤ 1000000) k body term.names i) in
+      let to : Reaches (laws_entries c.entries) body k = Reaches.mentioned i in
+      ⊎_elim (λ (h : Contains (numbers_of before) k). in_front before reached k h)
+      (λ (h : Contains (numbers_of (e ∷ behind)) k). ⊎_elim
+      (λ (g : Contains (numbers_of (e ∷ [])) k). absurd (acyclic (subst (λ n. Reaches (laws_entries c.entries) body n) (sym (only_one e k g) ∙ hole.number_is) to)))
+      (λ (g : Contains (numbers_of behind) k). in_back before reached k (reached_in c x body parts k g to))
+      (split_numbers (e ∷ []) behind k h))
+      (split_numbers before (e ∷ behind) k (subst (λ (zs : List Item). Contains (numbers_of zs) k) hole.entries all))
+
+  body_over : (v : Assignment) → MentionsOnly (has_constant (entries_at v (laws_entries front))) (at v body)
+  body_over v = only_mentioned (has_constant (entries_at v (laws_entries front))) v body (λ k i. number_found v front k differ_front (in_body k i))
+
+  type_over : (v : Assignment) → MentionsOnly (has_constant (entries_at v (laws_entries front))) (at v e.ty)
+  type_over v =
+      only_mentioned (has_constant (entries_at v (laws_entries front))) v e.ty
+      (λ k i. number_found v front k differ_front (in_front before reached k (old_follows c x body before behind e hole.entries k (or_left (mentions k e.ty) (unwrap_or (option_map (mentions k) e.body) false) i))))
+
+  module _ (more : List Constraint) where
+    -- what the constraints of the entries with the body ask
+    satisfied : (v : Assignment) → SatisfiesAll v (kept (laws_entries (front ++ filled e body more ∷ others))) → SatisfiesAll v (kept (laws_entries c.entries)) × SatisfiesAll v (pairs_of more)
+    satisfied v h =
+        let two = front_all (IsSatisfied v) front (filled e body more ∷ others) (each_satisfied v (front ++ filled e body more ∷ others) h) in
+        let both : SatisfiesAll v (pairs_of e.constraints ++ pairs_of more) = subst (SatisfiesAll v) (map-append pair_of e.constraints more) (All-head (IsSatisfied v) (filled e body more) others two.1) in
+        let old : All (IsSatisfied v) moved = All-append (IsSatisfied v) front (e ∷ others) two.0 (All-cons (IsSatisfied v) e others (satisfies_front v (pairs_of e.constraints) (pairs_of more) both) (All-tail (IsSatisfied v) (filled e body more) others two.1)) in (
+          all_satisfied v c.entries (All-permutation (IsSatisfied v) moved c.entries moved_back old),
+          satisfies_back v (pairs_of e.constraints) (pairs_of more) both,
+        )
+
+    is_entry : IsEntry e
+    is_entry = All-head IsEntry e behind (front_all IsEntry before (e ∷ behind) (subst (λ (zs : List Item). All IsEntry zs) hole.entries x.kinds)).1
+
+    -- the entries are valid with the body, where it has the hole's type under its constraints
+    pub solved_valid : ((v : Assignment) → SatisfiesAll v (kept (laws_entries c.entries)) → SatisfiesAll v (pairs_of more) → Has (entries_at v (laws_entries c.entries)) [] (at v body) (at v e.ty))
+        → AlwaysValid (laws_entries (front ++ filled e body more ∷ others))
+    solved_valid sound v h =
+        let s = satisfied v h in
+        let old : List Constant = entries_at v (laws_entries c.entries) in
+        let valid = x.valid v s.0 in
+        let in_order = reordering old (entries_at v (laws_entries moved)) valid (among v moved c.entries (λ y i. Contains-permutation moved c.entries y moved_back i) differ x.numbers) (earlier_moved v) in
+        let typed =
+        reordered_judgements old (entries_at v (laws_entries front)) valid
+        (among v front c.entries (λ y i. Contains-permutation moved c.entries y moved_back (Contains-append_left front (e ∷ others) y i)) differ_front x.numbers)
+        (earlier_front v) [] (at v body) (at v e.ty) tt (body_over v) (type_over v) (sound v s.0 s.1) in
+        let given =
+        bodies_may_be_given (entries_at v (laws_entries others)) (entries_at v (laws_entries front)) (entry_at v (laws_entry e)) (at v body)
+        (subst AreValid (around_entry v front others e) in_order) (ap (option_map (at v)) (no_body e.kind e.name e.body e.hypotheses hole.hole is_entry.kind)) typed in
+        subst AreValid (sym (around_entry v front others (filled e body more))) given.0
