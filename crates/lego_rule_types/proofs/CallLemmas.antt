@@ -1,5 +1,5 @@
 -- What the call answers of a whole term.
-use Rattle.std.proofs.Common.{◌≡◌, ℕ, ◌+◌, ◌≤◌, ◌<◌, List, [], Ok, Err, sym, subst, ⊎_elim, arith}
+use Rattle.std.proofs.Common.{◌≡◌, ℕ, ◌+◌, ◌≤◌, ◌<◌, List, [], Ok, Err, sym, subst, ⊎_elim}
 use Rattle.lego_term.specs.declared.fault.TermFault.{TermFault}
 use Rattle.lego_term.specs.declared.fault.TermFault.TheVariants as term
 use Rattle.lego_term.specs.declared.weight.Extent.{Extent}
@@ -19,18 +19,21 @@ use Rattle.lego_inference.specs.Entries.{laws_entries, AreClosedEntries}
 use Rattle.lego_inference.specs.Locals.{site_of, types_of, IsOver}
 use Rattle.lego_inference.specs.private.Faults.{of_term}
 use Rattle.lego_inference.proofs.CallLemmas.{type_over}
-use Rattle.lego_rule_types.specs.Failures.{Stops, RuleTypeFails}
+use Rattle.lego_rule_types.specs.Failures.{HasRoom, RuleTypeFails}
 use Rattle.lego_rule_types.specs.Calls.{IsRuleType}
 use Rattle.lego_rule_types.specs.private.Counting.{IsBehind}
+
+pub has_room : (s : Site) (m : Core) (x : Extent) → IsMeasured m (Ok x) → s.first + nodes m ≤ 1048576 → HasRoom s m
+has_room s m x measured levels = record { high = measured.2; heavy = measured.3; levels = levels }
 
 pub measured_fails : (es : List Entry) (limit : ℕ) (s : Site) (m : Core) (fault : TermFault) → IsMeasured m (Err fault) → RuleTypeFails es limit s m (of_term fault)
 measured_fails es limit s m (term.TooLarge size depth) h =
     subst (λ z. RuleTypeFails es limit s m (TooLarge z depth)) (sym h.0) (subst (λ z. RuleTypeFails es limit s m (TooLarge 1048577 z)) (sym h.1) (RuleTypeFails.measured h.2))
-measured_fails es limit s m term.Memory h = RuleTypeFails.stops Stops.memory
+measured_fails es limit s m term.Memory h = RuleTypeFails.memory
 
 pub counted_fails : (es : List Entry) (limit : ℕ) (s : Site) (m : Core) (x : Extent) (fault : TypeFault) → IsMeasured m (Ok x) → IsBehind (s.first + nodes m) (Err fault) → RuleTypeFails es limit s m fault
 counted_fails es limit s m x fault h b =
-    ⊎_elim (λ (e : fault ≡ Memory). subst (RuleTypeFails es limit s m) (sym e) (RuleTypeFails.stops Stops.memory))
+    ⊎_elim (λ (e : fault ≡ Memory). subst (RuleTypeFails es limit s m) (sym e) (RuleTypeFails.memory))
     (λ (e : (fault ≡ Full Levels 1048576) × (1048576 < s.first + nodes m)). subst (RuleTypeFails es limit s m) (sym e.0) (RuleTypeFails.full h.2 h.3 e.1)) b
 
 pub rule_whole : (es : List Item) (locals : List Local) (levels : ℕ) (m : Core) (x : Extent) (judged : Judged) → AreClosedEntries (laws_entries es) → AreHeld es locals levels → IsTermOver es locals levels m → IsMeasured m (Ok x)
@@ -42,5 +45,5 @@ rule_whole es locals levels m x judged closed held over measured rule none count
       over = subst (λ z. IsOver (laws_entries es) (types_of locals) z judged.ty) (sym count) (type_over es locals levels m judged.ty x closed held over measured rule);
       unconstrained = none;
       count = count;
-      within = omega arith;
+      room = has_room (site_of locals levels) m x measured within;
     }

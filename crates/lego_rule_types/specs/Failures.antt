@@ -26,9 +26,16 @@ pub data Stops (es : List Entry) (limit : ℕ) (s : Site) (m : Core) : TypeFault
       → Stops es limit s m (TooLarge size depth)
   memory : Stops es limit s m Memory
 
--- The rule type of a term at a site is not answered: the search stops; or the term is too high or too heavy; or it is neither, and
--- the level variables held and those of its nodes are more than the limit.
+-- the term is within the limits of height and weight, and the level variables held and those of its nodes are within theirs
+pub record HasRoom (s : Site) (m : Core) : Type 0 where
+  pub high : height m ≤ 2000
+  pub heavy : weight m ≤ 1048576
+  pub levels : s.first + nodes m ≤ 1048576
+
+-- The rule type of a term at a site is not answered: the term is too high or too heavy; or it is neither, and there are too few
+-- level variables for its nodes; or it has room, and the search stops; or memory ran out.
 pub data RuleTypeFails (es : List Entry) (limit : ℕ) (s : Site) (m : Core) : TypeFault → Type 0 where
-  stops : {fault : TypeFault} → Stops es limit s m fault → RuleTypeFails es limit s m fault
   measured : (2000 < height m) ⊎ (1048576 < weight m) → RuleTypeFails es limit s m (TooLarge 1048577 2001)
   full : height m ≤ 2000 → weight m ≤ 1048576 → 1048576 < s.first + nodes m → RuleTypeFails es limit s m (Full Levels 1048576)
+  stops : {fault : TypeFault} → HasRoom s m → Stops es limit s m fault → RuleTypeFails es limit s m fault
+  memory : RuleTypeFails es limit s m Memory

@@ -3,10 +3,11 @@ use Rattle.std.proofs.lemmas.Result.{err_from_is_err_and}
 use Rattle.lego_inference.specs.Entries.{laws_entries}
 use Rattle.lego_inference.specs.Locals.{site_of}
 use Rattle.lego_rule_types.specs.Failures.{Stops, RuleTypeFails}
+use Rattle.lego_rule_types.specs.Calls.{HasNoRuleType}
 use Rattle.lego_rule_types.specs.private.Finding.{IsPlaced}
-use Rattle.lego_rule_types.proofs.FindLemmas.{at_site, some_found}
+use Rattle.lego_rule_types.proofs.FindLemmas.{at_site, some_found, none_found}
 use Rattle.lego_rule_types.proofs.PlacedLemmas.{placed_whole}
-use Rattle.lego_rule_types.proofs.CallLemmas.{measured_fails, counted_fails, rule_whole}
+use Rattle.lego_rule_types.proofs.CallLemmas.{has_room, measured_fails, counted_fails, rule_whole}
 use Rattle.lego_laws.specs.Places.{RuleTypeAt}
 use Rattle.lego_rule_types.proofs.call.rule_type.Goals as goal
 
@@ -23,7 +24,7 @@ returns-in_err-behind c =
 pub returns-in_err-locals : goal.returns-in_err-locals
 returns-in_err-locals c =
     let e = err_from_is_err_and c.from_residual-in_err-locals.result c.from_residual-in_err-locals.ensures.1 in
-    rw (e.1, e.2) (RuleTypeFails.stops Stops.memory)
+    rw (e.1, e.2) RuleTypeFails.memory
 
 pub rule-requires : goal.rule-requires
 rule-requires c =
@@ -33,7 +34,14 @@ rule-requires c =
 pub returns-in_err-ty : goal.returns-in_err-ty
 returns-in_err-ty c =
     let e = err_from_is_err_and c.from_residual-in_err-ty.result c.from_residual-in_err-ty.ensures.1 in
-    rw (e.1, e.2) (RuleTypeFails.stops (at_site (λ z. Stops (laws_entries c.args.signature.now) c.args.asked.limit z c.args.m.now c.in_err-ty.field-0.0) {l = c.in_ok-locals.locals} {n = c.args.levels} c.in_ok-locals.ensures refl c.in_err-ty.ensures.found))
+    rw (e.1, e.2) (RuleTypeFails.stops (has_room (site_of c.args.locals.now c.args.levels) c.args.m.now c.in_ok-measure.field-0 c.in_ok-measure.ensures c.in_ok-behind.ensures.1) (at_site (λ z. Stops (laws_entries c.args.signature.now) c.args.asked.limit z c.args.m.now c.in_err-ty.field-0.0) {l = c.in_ok-locals.locals} {n = c.args.levels} c.in_ok-locals.ensures refl c.in_err-ty.ensures.found))
+
+pub returns-in_default : goal.returns-in_default
+returns-in_default c = (
+  has_room (site_of c.args.locals.now c.args.levels) c.args.m.now c.in_ok-measure.field-0 c.in_ok-measure.ensures c.in_ok-behind.ensures.1,
+  at_site (λ z. HasNoRuleType (laws_entries c.args.signature.now) z.types c.args.m.now) {l = c.in_ok-locals.locals} {n = c.args.levels} c.in_ok-locals.ensures refl
+      (none_found (laws_entries c.args.signature.now) c.args.asked.limit (site_of c.in_ok-locals.locals c.args.levels) c.args.m.now _ c.in_default.is c.in_ok-ty.ensures.found),
+)
 
 pub returns : goal.returns
 returns c =
