@@ -44,9 +44,13 @@ fn text_under(alloc: Global, under: &[Binder], term: Term) -> Result<Vec<u8>, Fa
 }
 
 /// The constant of a number, applied to two local variables.
-fn applied(alloc: Global, number: u32, first: u32, second: u32) -> Result<Term, Fail> {
-    let one = apply(alloc, &konst(alloc, number)?, &var(alloc, first)?)?;
-    apply(alloc, &one, &var(alloc, second)?)
+fn applied(alloc: Global, number: u32, first: u8, second: u8) -> Result<Term, Fail> {
+    let one = apply(
+        alloc,
+        &konst(alloc, number)?,
+        &var(alloc, u32::from(first))?,
+    )?;
+    apply(alloc, &one, &var(alloc, u32::from(second))?)
 }
 
 #[test]
