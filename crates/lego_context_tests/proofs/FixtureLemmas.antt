@@ -1,5 +1,5 @@
 -- Terms that are over a context.
-use Rattle.std.proofs.Common.{◌≡◌, ℕ, zero, suc, ◌+◌, ◌≤◌, List, [], ◌∷◌, ◌++◌, Option, Some, All, take, length, slice_get, inl, refl, sym, ap, ◌∙◌, subst, arith}
+use Rattle.std.proofs.Common.{◌≡◌, ℕ, zero, suc, ◌+◌, ◌≤◌, List, [], ◌∷◌, ◌++◌, Some, take, length, slice_get, inl, refl, sym, ap, ◌∙◌, subst, arith}
 use Rattle.std.proofs.lemmas.List.Elements.{All-take, All-push}
 use Rattle.lego_term.specs.Trees.{Core, Prop}
 use Rattle.lego_laws.specs.Judgement.{Has}

@@ -1,4 +1,4 @@
-use Rattle.std.proofs.Common.{◌≡◌, length, ap}
+use Rattle.std.proofs.Common.{length, ap}
 use Rattle.lego_context_tests.proofs.FrontLemmas.{can_take_back_to, taken_back_to}
 use Rattle.lego_context_tests.proofs.fronts.make_and_take_back.Goals as goal
 
