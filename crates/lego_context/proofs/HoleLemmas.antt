@@ -27,7 +27,7 @@ holes-next es e h can = by_name e.name refl can
     by_name None none named = holes-unnamed es e none h
     by_name (Some name) is named = holes-push es e named.0
 
-none_in_front : (xs ys : List ℕ) → xs ++ ys ≡ [] → xs ≡ []
+pub none_in_front : (xs ys : List ℕ) → xs ++ ys ≡ [] → xs ≡ []
 none_in_front [] ys h = refl
 none_in_front (x ∷ xs) ys h = cc
 

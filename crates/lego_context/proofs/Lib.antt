@@ -15,6 +15,7 @@ pub mod StoreLemmas
 pub mod MentionLemmas
 pub mod OrderLemmas
 pub mod SolveLemmas
+pub mod SolvedLemmas
 pub mod NextLemmas
 pub mod CutLemmas
 pub mod SettleLemmas

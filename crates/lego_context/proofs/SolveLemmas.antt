@@ -93,20 +93,20 @@ around_entry v xs ys y =
     ∙ append_assoc (entries_at v (laws_entries ys)) (entry_at v (laws_entry y) ∷ []) (entries_at v (laws_entries xs))
 
 -- the constraints of each entry are satisfied
-abbrev IsSatisfied : Assignment → Item → Type 0
+abbrev pub IsSatisfied : Assignment → Item → Type 0
 IsSatisfied v y = SatisfiesAll v (pairs_of y.constraints)
 
-each_satisfied : (v : Assignment) (es : List Item) → SatisfiesAll v (kept (laws_entries es)) → All (IsSatisfied v) es
+pub each_satisfied : (v : Assignment) (es : List Item) → SatisfiesAll v (kept (laws_entries es)) → All (IsSatisfied v) es
 each_satisfied v [] h = All-nil (IsSatisfied v)
 each_satisfied v (y ∷ es) h =
     All-cons (IsSatisfied v) y es (satisfies_front v (pairs_of y.constraints) (kept (laws_entries es)) h) (each_satisfied v es (satisfies_back v (pairs_of y.constraints) (kept (laws_entries es)) h))
 
-all_satisfied : (v : Assignment) (es : List Item) → All (IsSatisfied v) es → SatisfiesAll v (kept (laws_entries es))
+pub all_satisfied : (v : Assignment) (es : List Item) → All (IsSatisfied v) es → SatisfiesAll v (kept (laws_entries es))
 all_satisfied v [] h = tt
 all_satisfied v (y ∷ es) h =
     satisfies_append v (pairs_of y.constraints) (kept (laws_entries es)) (All-head (IsSatisfied v) y es h) (all_satisfied v es (All-tail (IsSatisfied v) y es h))
 
-front_all : (P : Item → Type 0) (xs ys : List Item) → All P (xs ++ ys) → All P xs × All P ys
+pub front_all : (P : Item → Type 0) (xs ys : List Item) → All P (xs ++ ys) → All P xs × All P ys
 front_all P [] ys h = (All-nil P, h)
 front_all P (x ∷ xs) ys h = let r = front_all P xs ys (All-tail P x (xs ++ ys) h) in (All-cons P x xs (All-head P x (xs ++ ys) h) r.0, r.1)
 
@@ -213,7 +213,7 @@ module _ (c : Contents) (x : IsContext c) (number : ℕ) (body : Core) (term : I
   moved_back : IsPermutation moved c.entries
   moved_back = IsPermutation-sym c.entries moved is_moved
 
-  differ : Differ (numbers_of moved)
+  pub differ : Differ (numbers_of moved)
   differ = differ_permuted c.entries moved is_moved x.numbers
 
   differ_front : Differ (numbers_of front)
