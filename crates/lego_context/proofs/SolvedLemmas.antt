@@ -145,12 +145,12 @@ pairs_below : (n : ℕ) (xs ys : List LevelPair) → pairs_bound xs ≤ n → pa
 pairs_below n [] ys h k = k
 pairs_below n (x ∷ xs) ys h k = let rest = pairs_below n xs ys (omega arith) k in omega arith
 
-parts_names : {es : List Item} {body : Core} {behind reached others : List Item} → Parts (laws_entries es) body behind reached others → names_of behind ≡ [] → (names_of reached ≡ []) × (names_of others ≡ [])
-parts_names Parts.none h = (h, h)
-parts_names (Parts.reached {e = y} {behind = ys} {reached = rs} r p) h =
-    let two = unnamed_head y ys h in let rest = parts_names p two.1 in (unnamed_cons y rs two.0 rest.0, rest.1)
-parts_names (Parts.other {e = y} {behind = ys} {others = os} un p) h =
-    let two = unnamed_head y ys h in let rest = parts_names p two.1 in (rest.0, unnamed_cons y os two.0 rest.1)
+parts_names : (es : List Item) (body : Core) {behind reached others : List Item} → Parts (laws_entries es) body behind reached others → names_of behind ≡ [] → (names_of reached ≡ []) × (names_of others ≡ [])
+parts_names es body Parts.none h = (h, h)
+parts_names es body (Parts.reached {e = y} {behind = ys} {reached = rs} r p) h =
+    let two = unnamed_head y ys h in let rest = parts_names es body p two.1 in (unnamed_cons y rs two.0 rest.0, rest.1)
+parts_names es body (Parts.other {e = y} {behind = ys} {others = os} un p) h =
+    let two = unnamed_head y ys h in let rest = parts_names es body p two.1 in (rest.0, unnamed_cons y os two.0 rest.1)
 
 module _ (c : Contents) (x : IsContext c) (number : ℕ) (body : Core) (term : IsTermOver c.entries [] c.levels body)
     (before behind reached others : List Item) (e : Item) (hole : HasHole c.entries number before e behind)
@@ -189,7 +189,7 @@ module _ (c : Contents) (x : IsContext c) (number : ℕ) (body : Core) (term : I
 
   now_names : names_of behind_now ≡ []
   now_names =
-      let two = parts_names parts behind_names in
+      let two = parts_names c.entries body parts behind_names in
       unnamed_append reached (f ∷ others) two.0 (unnamed_cons f others name_is two.1)
 
   names_kept : names_of now ≡ names_of c.entries
