@@ -16,6 +16,8 @@ pub mod MentionLemmas
 pub mod OrderLemmas
 pub mod SolveLemmas
 pub mod SolvedLemmas
+pub mod SolutionLemmas
+pub mod MemberLemmas
 pub mod NextLemmas
 pub mod CutLemmas
 pub mod SettleLemmas

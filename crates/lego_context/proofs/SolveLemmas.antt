@@ -39,7 +39,7 @@ use Rattle.lego_context.proofs.NumberLemmas.{numbers-push}
 use Rattle.lego_context.proofs.OrderLemmas.{MentionsIn, Follow, among, number_found, mentions_front}
 
 -- a number with an entry is listed
-some_listed : (es : List Item) (k : ℕ) → IsSome (entry_of (laws_entries es) k) → Contains (numbers_of es) k
+pub some_listed : (es : List Item) (k : ℕ) → IsSome (entry_of (laws_entries es) k) → Contains (numbers_of es) k
 some_listed [] k h = absurd (cc)
 some_listed (y ∷ es) k h = by_test (nat_eq y.number k) refl (λ g. some_listed es k g)
   where
@@ -47,11 +47,11 @@ some_listed (y ∷ es) k h = by_test (nat_eq y.number k) refl (λ g. some_listed
     by_test true t rest = let same : y.number ≡ k = grind (arith, nat_tests) in (0, omega arith, same)
     by_test false t rest = let c = rest (rw t at h) in (suc c.0, omega (arith, c.1), c.2)
 
-contains_middle : {X : Type 0} (xs ys : List X) (x : X) → Contains (xs ++ x ∷ ys) x
+pub contains_middle : {X : Type 0} (xs ys : List X) (x : X) → Contains (xs ++ x ∷ ys) x
 contains_middle [] ys x = (0, omega arith, refl)
 contains_middle (z ∷ xs) ys x = let c = contains_middle xs ys x in (suc c.0, omega (arith, c.1), c.2)
 
-get_middle : {X : Type 0} (xs ys : List X) (x : X) → slice_get (xs ++ x ∷ ys) (length xs) ≡ Some x
+pub get_middle : {X : Type 0} (xs ys : List X) (x : X) → slice_get (xs ++ x ∷ ys) (length xs) ≡ Some x
 get_middle [] ys x = refl
 get_middle (z ∷ xs) ys x = get_middle xs ys x
 
@@ -61,7 +61,7 @@ split_numbers (x ∷ xs) ys k (zero, l, same) = inl (0, omega arith, same)
 split_numbers (x ∷ xs) ys k (suc i, l, same) =
     ⊎_elim (λ (c : Contains (numbers_of xs) k). inl (suc c.0, omega (arith, c.1), c.2)) (λ (c : Contains (numbers_of ys) k). inr c) (split_numbers xs ys k (i, omega (arith, l), same))
 
-in_front : (xs ys : List Item) (k : ℕ) → Contains (numbers_of xs) k → Contains (numbers_of (xs ++ ys)) k
+pub in_front : (xs ys : List Item) (k : ℕ) → Contains (numbers_of xs) k → Contains (numbers_of (xs ++ ys)) k
 in_front xs ys k c = subst (λ ns. Contains ns k) (sym (map-append (λ (y : Item). y.number) xs ys)) (Contains-append_left (numbers_of xs) (numbers_of ys) k c)
 
 in_back : (xs ys : List Item) (k : ℕ) → Contains (numbers_of ys) k → Contains (numbers_of (xs ++ ys)) k
