@@ -164,7 +164,7 @@ module _ (c : Contents) (x : IsContext c) (body : Core) where
   reached_follow xs new is (Parts.reached {e = y} {behind = ys} r p) agree = (
     λ k m. agree k (old_follows xs ys y is k m) (further xs ys y is r k m),
     reached_follow (xs ++ y ∷ []) (new ++ y ∷ []) (next_split xs ys y is) p
-    (λ k h to. in_next xs (new ++ y ∷ []) y k (λ i. in_front new (y ∷ []) k (agree k i to)) (λ same. last_in new y k same) h),
+        (λ k h to. in_next xs (new ++ y ∷ []) y k (λ i. in_front new (y ∷ []) k (agree k i to)) (λ same. last_in new y k same) h),
   )
   reached_follow xs new is (Parts.other {e = y} {behind = ys} un p) agree =
       reached_follow (xs ++ y ∷ []) new (next_split xs ys y is) p (λ k h to. in_next xs new y k (λ i. agree k i to) (λ same. absurd (un (subst reaches (sym same) to))) h)
@@ -178,7 +178,7 @@ module _ (c : Contents) (x : IsContext c) (body : Core) where
   others_follow xs new is (Parts.other {e = y} {behind = ys} un p) agree rest = (
     λ k m. agree k (old_follows xs ys y is k m),
     others_follow (xs ++ y ∷ []) (new ++ y ∷ []) (next_split xs ys y is) p
-    (λ k h. in_next xs (new ++ y ∷ []) y k (λ i. in_front new (y ∷ []) k (agree k i)) (λ same. last_in new y k same) h) (λ k i. in_front new (y ∷ []) k (rest k i)),
+        (λ k h. in_next xs (new ++ y ∷ []) y k (λ i. in_front new (y ∷ []) k (agree k i)) (λ same. last_in new y k same) h) (λ k i. in_front new (y ∷ []) k (rest k i)),
   )
 
   reached_in : {behind reached others : List Item} → Parts (laws_entries c.entries) body behind reached others → (k : ℕ) → Contains (numbers_of behind) k → reaches k → Contains (numbers_of reached) k
@@ -233,8 +233,8 @@ module _ (c : Contents) (x : IsContext c) (number : ℕ) (body : Core) (term : I
       earlier v front (e ∷ others) differ (earlier_front v) (
         λ k m. in_front before reached k (old_follows c x body before behind e hole.entries k m),
         others_follow c x body (before ++ e ∷ []) (front ++ e ∷ []) split parts
-        (λ k h. in_next c x body before (front ++ e ∷ []) e k (λ i. in_front front (e ∷ []) k (in_front before reached k i)) (λ same. last_in c x body front e k same) h)
-        (λ k i. in_front front (e ∷ []) k (in_back before reached k i)),
+            (λ k h. in_next c x body before (front ++ e ∷ []) e k (λ i. in_front front (e ∷ []) k (in_front before reached k i)) (λ same. last_in c x body front e k same) h)
+            (λ k i. in_front front (e ∷ []) k (in_back before reached k i)),
       )
 
   -- what the body mentions stands before the hole

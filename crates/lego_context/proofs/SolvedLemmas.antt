@@ -74,7 +74,7 @@ holes_replaced : (xs ys zs : List Item) → HasHolesLast (xs ++ ys) → names_of
 holes_replaced [] ys zs h none = unnamed_last zs none
 holes_replaced (x ∷ xs) ys zs h none = (
   ⊎_elim (λ (k : IsNoHole x.kind). inl k)
-  (λ (k : names_of (xs ++ ys) ≡ []). inr (unnamed_append xs zs (none_in_front (names_of xs) (names_of ys) (sym (names-append xs ys) ∙ k)) none)) h.0,
+      (λ (k : names_of (xs ++ ys) ≡ []). inr (unnamed_append xs zs (none_in_front (names_of xs) (names_of ys) (sym (names-append xs ys) ∙ k)) none)) h.0,
   holes_replaced xs ys zs h.1 none,
 )
 

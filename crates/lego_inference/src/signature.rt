@@ -172,12 +172,7 @@ impl Signature {
     }
 
     /// Gives the entry at a place a body, as a filled hole, and puts constraints behind its own.
-    pub fn solve(
-        &mut self,
-        at: usize,
-        body: &Term,
-        more: &[Constraint],
-    ) -> Result<(), AllocError>
+    pub fn solve(&mut self, at: usize, body: &Term, more: &[Constraint]) -> Result<(), AllocError>
         requires within { at < length self.old }
         requires numbers { Differ (numbers_of self.old) }
         requires closed { loose body.now ≡ 0 }
