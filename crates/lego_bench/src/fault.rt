@@ -1,4 +1,5 @@
 use lego_compare::CompareFault;
+use lego_inference::TypeFault;
 use lego_level::GraphFault;
 use lego_reduce::ReduceFault;
 use lego_term::TermFault;
@@ -15,8 +16,12 @@ pub enum BenchFault {
     Reduce(ReduceFault),
     /// Terms were not related that convert.
     Unrelated,
-    /// Constraints were refused that can be satisfied.
+    /// Constraints or an entry were refused that can be kept.
     Refused,
+    /// The universes of an entry are a cycle.
+    Cycle,
+    /// A term of an entry passes a limit.
+    TooLarge,
     /// The counts could not be written.
     Write,
     /// Memory ran out.
@@ -44,6 +49,17 @@ impl From<CompareFault> for BenchFault {
 impl From<GraphFault> for BenchFault {
     fn from(_: GraphFault) -> BenchFault {
         BenchFault::Refused
+    }
+}
+
+impl From<TypeFault> for BenchFault {
+    fn from(fault: TypeFault) -> BenchFault {
+        match fault {
+            TypeFault::Universe { .. } => BenchFault::Cycle,
+            TypeFault::TooLarge { .. } => BenchFault::TooLarge,
+            TypeFault::Memory => BenchFault::Memory,
+            _ => BenchFault::Refused,
+        }
     }
 }
 

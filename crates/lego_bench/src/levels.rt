@@ -6,6 +6,7 @@ use crate::fault::BenchFault;
 use lego_level::{Constraint, Graph, GraphFault};
 use lego_term::Level;
 use std::alloc::Global;
+use std::fmt;
 
 /// The greatest size of a workload.
 const MAX_SIZE: u32 = 10_000_000;
@@ -31,6 +32,13 @@ pub struct Held {
     pub constraints: u64,
     pub value: u64,
     pub refused: u64,
+}
+
+impl fmt::Display for Held {
+    fn fmt<W: fmt::Write>(&self, f: &mut fmt::Formatter<W>) -> fmt::Result {
+        let (count, value, refused) = (self.constraints, self.value, self.refused);
+        write!(f, "{count} constraints, {value} at most, {refused} refused")
+    }
 }
 
 /// The order in which the constraints of a chain come.

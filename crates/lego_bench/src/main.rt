@@ -1,8 +1,10 @@
-//! Runs workloads of terms, of reduction and of levels, each named by a word and sized by the next
-//! word, and prints what each came to.
+//! Runs workloads of terms, of reduction, of levels and of contexts, each named by a word and sized
+//! by the next word, and prints what each came to.
 #![tactic(auto)]
 
 mod comparison;
+mod contexts;
+mod development;
 mod fault;
 mod levels;
 mod workload;
@@ -15,27 +17,15 @@ use workload::{Outcome, run_workload};
 
 fn main(rt: HostRuntime) -> Result<(), BenchFault> {
     let mut waiting: Option<String> = None;
-    for word in words(&rt)? {
+    for size in words(&rt)? {
         let Some(name) = waiting.take() else {
-            waiting = Some(word);
+            waiting = Some(size);
             continue;
         };
-        let outcome = sized(rt.alloc(), name.as_str(), word.as_str())?;
         let name = name.as_str();
-        let size = word.as_str();
-        let printed = match outcome {
-            Outcome::Terms(counts) => {
-                let (nodes, depth, found) = (counts.nodes, counts.depth, counts.found);
-                println!(rt; "{name} {size}: {nodes} nodes, {depth} deep, {found}")
-            }
-            Outcome::Levels(held) => {
-                let (count, value, refused) = (held.constraints, held.value, held.refused);
-                println!(rt;
-                    "{name} {size}: {count} constraints, {value} at most, {refused} refused"
-                )
-            }
-        };
-        if printed.is_err() {
+        let size = size.as_str();
+        let outcome = sized(rt.alloc(), name, size)?;
+        if println!(rt; "{name} {size}: {outcome}").is_err() {
             return Err(BenchFault::Write);
         }
     }

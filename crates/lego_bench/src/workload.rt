@@ -3,6 +3,7 @@ ghost use Rattle.std.specs.Prelude.{IfOk};
 ghost use Rattle.lego_term.specs.BodyMap.{AreClosed};
 
 use crate::comparison;
+use crate::contexts::{self, Added, run_contexts};
 use crate::fault::BenchFault;
 use crate::levels::{Held, run_levels};
 use lego_reduce::{ReduceFault, head, normal};
@@ -59,15 +60,36 @@ pub struct Counts {
     pub found: Found,
 }
 
+impl fmt::Display for Counts {
+    fn fmt<W: fmt::Write>(&self, f: &mut fmt::Formatter<W>) -> fmt::Result {
+        let (nodes, depth, found) = (self.nodes, self.depth, self.found);
+        write!(f, "{nodes} nodes, {depth} deep, {found}")
+    }
+}
+
 /// What a workload came to.
 #[derive(Debug, Clone, Copy, PartialEq, Eq, Drop)]
 pub enum Outcome {
     Terms(Counts),
     Levels(Held),
+    Contexts(Added),
+}
+
+impl fmt::Display for Outcome {
+    fn fmt<W: fmt::Write>(&self, f: &mut fmt::Formatter<W>) -> fmt::Result {
+        match self {
+            Outcome::Terms(counts) => write!(f, "{counts}"),
+            Outcome::Levels(held) => write!(f, "{held}"),
+            Outcome::Contexts(added) => write!(f, "{added}"),
+        }
+    }
 }
 
 /// Runs the workload of this name.
 pub fn run_workload(alloc: Global, name: &str, size: u32) -> Result<Outcome, BenchFault> {
+    if let Some(workload) = contexts::named(name) {
+        return Ok(Outcome::Contexts(run_contexts(alloc, workload, size)?));
+    }
     match name {
         "chain" | "back" | "mixed" | "layers" | "cycles" | "again" | "ring" | "both" => {
             Ok(Outcome::Levels(run_levels(alloc, name, size)?))

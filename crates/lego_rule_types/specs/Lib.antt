@@ -1,0 +1,4 @@
+pub mod Used
+pub mod Failures
+pub mod Calls
+pub mod private

@@ -1,0 +1,5 @@
+//! Tests of rule types, over the public call alone.
+#![tactic(auto)]
+
+#[cfg(test)]
+mod answers;
