@@ -16,6 +16,7 @@ use Rattle.lego_context.specs.Settling.{IsSettled}
 use Rattle.lego_print.specs.declared.shown.Shown.{Shown}
 use Rattle.lego_print.specs.declared.shown.Shown.TheVariants.{Least, Hidden}
 use Rattle.lego_print.specs.Names.{Scope}
+use Rattle.lego_print.specs.Holes.{called_text, head_called, stands_at_its_hypotheses}
 use Rattle.lego_print.specs.Texts.{sign_text, argument_sign, level_text, binder_name, bound, unbound, is_unused, is_arrow, ranked, sigma_rank, term_text}
 use Rattle.lego_print.specs.Entries.{entry_name, said, entry_text}
 use Rattle.lego_print.specs.EntryLines.{entry_lines}
@@ -65,7 +66,7 @@ module _ (v : Assignment) where
     term_alike scope wanted (App mark m n) =
         let function = term_alike scope 2 m in
         let argument = term_alike scope 3 n in
-        λ z. ranked 2 wanted (function z ++ argument_sign mark ++ argument z)
+        λ z. if stands_at_its_hypotheses scope (App mark m n) then called_text scope.names (head_called scope m) else ranked 2 wanted (function z ++ argument_sign mark ++ argument z)
     term_alike scope wanted (Sigma x a b) =
         let first = term_alike scope 2 a in
         let second = term_alike (unbound scope) 1 b in
